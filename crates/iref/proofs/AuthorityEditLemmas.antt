@@ -1,6 +1,5 @@
 -- What an edit by an editor of the authority leaves is the step of the whole reference.
-use Rattle.std.proofs.Common.{◌≡◌, true, Result, Ok, Err, OnErr, refl, sym, ap, ◌∙◌}
-use Rattle.std.specs.Prelude.{Option, Some, None, is_some, option_map, if◌then◌else◌}
+use Rattle.std.proofs.Common.{◌≡◌, true, Result, Ok, Err, OnErr, refl, sym, ap, ◌∙◌, Option, Some, None, is_some, option_map, if◌then◌else◌}
 use Rattle.iref_grammar.specs.{Characters.{CharTests, AreAboveAscii}, Rules.{Text}, Tests.{none_or}}
 use Rattle.iref_grammar.specs.Authority.{AuthorityValue, read_authority, is_authority, has_authority_parts}
 use Rattle.iref_grammar.specs.{ComponentOffsets.{offsets_of}, Reference.{is_readable, is_reference, read_reference}}

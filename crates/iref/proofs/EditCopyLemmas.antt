@@ -1,6 +1,6 @@
 -- Edits that leave the query and the fragment as they are, on a reference without these and on the whole one.
-use Rattle.std.proofs.Common.{◌≡◌, ℕ, zero, suc, ◌+◌, Bool, true, List, [], ◌∷◌, ◌∙◌, take, Result, Ok, Err, ap, arith, refl}
-use Rattle.std.specs.{Prelude.{Option}, List.{list_all}}
+use Rattle.std.proofs.Common.{◌≡◌, ℕ, zero, suc, ◌+◌, Bool, true, List, [], ◌∷◌, ◌∙◌, take, Result, Ok, Err, ap, arith, refl, Option}
+use Rattle.std.specs.List.{list_all}
 use Rattle.iref_grammar.specs.{Rules.{Text}, Reference.{ReferenceValue}}
 use Rattle.iref_model.specs.ComponentSteps.{with_fragment, with_query, with_scheme, with_authority, with_path}
 use Rattle.iref_model.specs.Edits.{EditStep, EditRefusal, Edited, EditsOutcome, edited, edited_uri, edited_from}

@@ -1,7 +1,6 @@
 -- A list of edits is done an edit at a time.
-use Rattle.std.proofs.Common.{◌≡◌, ℕ, ◌+◌, zero, suc, Bool, true, false, List, [], ◌∷◌, ◌<◌, ◌≤◌, map, take, length, get_or, Result, Ok, Err, refl, add-one, arith}
+use Rattle.std.proofs.Common.{◌≡◌, ℕ, ◌+◌, zero, suc, Bool, true, false, List, [], ◌∷◌, ◌<◌, ◌≤◌, map, take, length, get_or, Result, Ok, Err, refl, add-one, arith, Option, Some, IsOk, is_some, is_none, option_map, slice_get}
 use Rattle.std.proofs.{lemmas.List.{take_all, length-map}, lemmas.Option.{slice_get-map, slice_get_read}}
-use Rattle.std.specs.Prelude.{Option, Some, IsOk, is_some, is_none, option_map, slice_get}
 use Rattle.iref_grammar.specs.{Rules.{Text}, Authority.{spell_authority}, Reference.{ReferenceValue, read_reference}}
 use Rattle.iref_model.specs.Edits as model
 use Rattle.iref_model.specs.Edits.{EditStep, EditRefusal, Edited, drops_scheme, edited, edited_uri, edited_from}

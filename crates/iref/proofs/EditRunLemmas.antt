@@ -1,6 +1,5 @@
 -- A list of edits is done in runs.
-use Rattle.std.proofs.Common.{◌≡◌, ℕ, zero, suc, ◌+◌, ◌-◌, ◌≤◌, List, [], ◌∷◌, ◌++◌, ◌∙◌, map, take, drop, length, length-take-le, Ok, Err, refl, sym, ap, subst, arith}
-use Rattle.std.specs.Prelude.{IsSomeAnd, slice_get}
+use Rattle.std.proofs.Common.{◌≡◌, ℕ, zero, suc, ◌+◌, ◌-◌, ◌≤◌, List, [], ◌∷◌, ◌++◌, ◌∙◌, map, take, drop, length, length-take-le, Ok, Err, refl, sym, ap, subst, arith, IsSomeAnd, slice_get}
 use Rattle.std.proofs.Math.Seq.{take-add}
 use Rattle.std.proofs.lemmas.List.{drop-map, length-map, take-append-drop, take-map, take-take, take_rest}
 use Rattle.iref_grammar.specs.Reference.{ReferenceValue}

@@ -1,7 +1,7 @@
 -- Sets of sort keys find what is equal.
-use Rattle.std.proofs.Common.{◌≡◌, Bool, true, false, cond, not, ◌||◌, ℕ, ◌+◌, List, [], ◌∷◌, ◌++◌, refl, sym, ◌∙◌, ap, take, map, subst}
+use Rattle.std.proofs.Common.{◌≡◌, Bool, true, false, cond, not, ◌||◌, ℕ, ◌+◌, List, [], ◌∷◌, ◌++◌, refl, sym, ◌∙◌, ap, take, map, subst, if◌then◌else◌}
 use Rattle.std.proofs.{lemmas.List.{map-append}, lemmas.List.Folds.{list_any-append}, lemmas.List.Sums.{fold-append}}
-use Rattle.std.specs.{Prelude.{if◌then◌else◌}, Bool.{OnFalse}, List.{list_any}, Ordering.{is_eq}}
+use Rattle.std.specs.{Bool.{OnFalse}, List.{list_any}, Ordering.{is_eq}}
 use Rattle.std.specs.BTreeSet.{BTreeSet, contains, Updates, IsUnchanged}
 use Rattle.iref_grammar.specs.{Keys.{text_order}, Reference.{ReferenceValue}, Rules.{Text}}
 use Rattle.iref_model.specs.Key.{are_alike, key}

@@ -1,8 +1,7 @@
 -- A number is written as a port.
-use Rattle.std.proofs.Common.{◌≡◌, ℕ, ◌<◌, ◌/◌, ◌%◌, zero, suc, true, false, ◌∷◌, arith}
+use Rattle.std.proofs.Common.{◌≡◌, ℕ, ◌<◌, ◌/◌, ◌%◌, zero, suc, true, false, ◌∷◌, arith, Option, option_map}
 use Rattle.std.proofs.lemmas.Bool.Decides.{nat_tests}
-use Rattle.std.specs.{Prelude.{Option, option_map}, Char.{is_ascii_digit}, Fmt.{digit_glyph, digits_onto, digits}}
-use Rattle.std.specs.List.{list_all}
+use Rattle.std.specs.{Char.{is_ascii_digit}, Fmt.{digit_glyph, digits_onto, digits}, List.{list_all}}
 use Rattle.iref_grammar.specs.{Rules.{Text}, Tests.{is_port, none_or}}
 use Rattle.iref_model.specs.PortNumbers.{port_text}
 

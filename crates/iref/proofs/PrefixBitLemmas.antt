@@ -1,12 +1,11 @@
 -- The bits of texts.
-use Rattle.std.proofs.Common.{arith, ◌⊎◌, inl, inr, ◌≡◌, ◌≢◌, ℕ, zero, suc, ◌+◌, ◌-◌, ◌*◌, ◌/◌, ◌%◌, ◌^◌, ◌<◌, ◌≤◌, true, false, [], ◌∷◌, ◌++◌, length, get_or, take, drop, refl, sym, ap, subst, ◌∙◌, ⊎_elim}
+use Rattle.std.proofs.Common.{arith, ◌⊎◌, inl, inr, ◌≡◌, ◌≢◌, ℕ, zero, suc, ◌+◌, ◌-◌, ◌*◌, ◌/◌, ◌%◌, ◌^◌, ◌<◌, ◌≤◌, true, false, [], ◌∷◌, ◌++◌, length, get_or, take, drop, refl, sym, ap, subst, ◌∙◌, ⊎_elim, nat_lt, nat_eq, ◌==◌}
 use Rattle.std.proofs.{lemmas.Bool.{lt-ltb, le-ltb, ltb-true, ltb-false, cases_lt}, lemmas.Bool.Decides.{nat_tests}}
 use Rattle.std.proofs.{lemmas.Grind.{common_steps}, lemmas.Nat.{shr-shr}}
 use Rattle.std.proofs.lemmas.Nat.Bits.{same_from_bits_below, bit_at-lt, bit_at-zero}
 use Rattle.std.proofs.lemmas.List.{drop_all, get_or-take, length-take, append-nil}
 use Rattle.std.proofs.{lemmas.List.Sums.{common_prefix_len-le}, lemmas.List.Prefix.{front_from_reads}}
-use Rattle.std.specs.{Prelude.{nat_lt, nat_eq, ◌==◌}, Int.{bit_at}, List.{common_prefix_len}}
-use Rattle.std.specs.Cmp.Lexicographic.{bytes_decides}
+use Rattle.std.specs.{Int.{bit_at}, List.{common_prefix_len}, Cmp.Lexicographic.{bytes_decides}}
 use Rattle.iref_grammar.specs.{Rules.{Text}, Texts.{begins_with}}
 use Rattle.iref.specs.PrefixTree.{symbol, bit, SameBits, AreBytes}
 

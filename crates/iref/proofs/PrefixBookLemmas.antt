@@ -1,8 +1,7 @@
 -- What a table keeps when an entry is added, inserted, replaced or removed.
-use Rattle.std.proofs.Common.{arith, ◌≡◌, ◌≢◌, ℕ, ◌+◌, ◌-◌, ◌<◌, not, ◌&&◌, ◌||◌, inl, inr, false, true, List, [], ◌∷◌, ◌++◌, length, get_or, map, refl, sym, ap, subst, ◌∙◌}
+use Rattle.std.proofs.Common.{arith, ◌≡◌, ◌≢◌, ℕ, ◌+◌, ◌-◌, ◌<◌, not, ◌&&◌, ◌||◌, inl, inr, false, true, List, [], ◌∷◌, ◌++◌, length, get_or, map, refl, sym, ap, subst, ◌∙◌, ◌==◌, Option, Some, None}
 use Rattle.std.proofs.{lemmas.Bool.{cases_lt}, lemmas.List.{get_or_push, get_or_past, length_push, length-map}}
 use Rattle.std.proofs.Math.ListN.{set}
-use Rattle.std.specs.Prelude.{◌==◌, Option, Some, None}
 use Rattle.iref_grammar.specs.Rules.{Text}
 use Rattle.iref.specs.PrefixTable.{PrefixEntry, PrefixTable, is_taken, removed, with_iri}
 use Rattle.iref.specs.PrefixTree.{key_of, keys_of, text_at, place_at, HasPlace, IsAbsent, IsFirstOf, IsLed, IsTree}

@@ -1,11 +1,9 @@
 -- A prefix table gets one more entry, or changes at one place.
-use Rattle.std.proofs.Common.{arith, ◌≡◌, ◌≢◌, ℕ, ◌+◌, ◌<◌, ◌≤◌, inl, inr, Bool, true, false, not, ◌&&◌, ◌||◌, List, [], ◌∷◌, ◌++◌, length, refl, sym, ap, subst, ◌∙◌}
+use Rattle.std.proofs.Common.{arith, ◌≡◌, ◌≢◌, ℕ, ◌+◌, ◌<◌, ◌≤◌, inl, inr, Bool, true, false, not, ◌&&◌, ◌||◌, List, [], ◌∷◌, ◌++◌, length, refl, sym, ap, subst, ◌∙◌, ◌==◌, bytes_eq, Option, Some, None, IfSome, MatchOption, true≢false}
 use Rattle.std.proofs.lemmas.Bool.{cases_eq, cases_lt, cases_order, eq-eqb, eqb-true, ne_eqb, false_from_ne_true}
 use Rattle.std.proofs.lemmas.List.{get_or_append_left, get_or_push, get_or_past, get_or-set_same, get_or-set_other, length_push, length-map, map-append}
 use Rattle.std.proofs.Math.ListN.{set, length-set}
-use Rattle.std.specs.Prelude.{◌==◌, bytes_eq, Option, Some, None, IfSome, MatchOption}
 use Rattle.std.specs.Cmp.Lexicographic.{bytes_decides}
-use mathlib.Core.Bool.{true≢false}
 use Rattle.iref_grammar.specs.Rules.{Text}
 use Rattle.iref.specs.PrefixTable.{PrefixEntry, PrefixTable}
 use Rattle.iref.specs.PrefixTree.{key_of, keys_of, text_at, place_at, lead_at, HasPlace, IsFirst, IsLead, IsLed, IsTree}

@@ -1,10 +1,9 @@
 -- The entries that a tree finds.
-use Rattle.std.proofs.Common.{arith, ◌≡◌, ◌≢◌, ℕ, zero, suc, ◌+◌, ◌-◌, ◌*◌, ◌<◌, ◌≤◌, inl, inr, true, false, List, [], ◌∷◌, length, get_or, take, refl, sym, ap, subst, ◌∙◌, ⊎_elim}
+use Rattle.std.proofs.Common.{arith, ◌≡◌, ◌≢◌, ℕ, zero, suc, ◌+◌, ◌-◌, ◌*◌, ◌<◌, ◌≤◌, inl, inr, true, false, List, [], ◌∷◌, length, get_or, take, refl, sym, ap, subst, ◌∙◌, ⊎_elim, nat_eq, MatchOption, Option, Some, None}
 use Rattle.std.proofs.lemmas.Bool.{cases_lt, cases_eq, false_from_ne_true}
 use Rattle.std.proofs.lemmas.List.{get_or_read, length-take, length-take-le, length-map}
 use Rattle.std.proofs.lemmas.List.Sums.{common_prefix_len-le}
-use Rattle.std.specs.{Prelude.{nat_eq, MatchOption, Option, Some, None}, List.{AllByRecursion, common_prefix_len, find}}
-use Rattle.std.specs.Cmp.Lexicographic.{bytes_decides}
+use Rattle.std.specs.{List.{AllByRecursion, common_prefix_len, find}, Cmp.Lexicographic.{bytes_decides}}
 use Rattle.iref_grammar.specs.Rules.{Text}
 use Rattle.iref.specs.{PrefixTable.{PrefixEntry, PrefixTable, fits, longest_fit}, declared.compact.entry.Key.{Key}}
 use Rattle.iref.specs.PrefixPlaces.{AreWithin, entries_at, entry_at}

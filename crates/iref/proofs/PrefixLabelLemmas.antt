@@ -1,11 +1,10 @@
 -- Labels of prefix tables.
-use Rattle.std.proofs.Common.{arith, ◌≡◌, ℕ, Bool, true, false, not, ◌&&◌, ◌||◌, [], ◌∷◌, ◌++◌, length, refl, sym, ◌∙◌, ap, subst, inl, inr}
+use Rattle.std.proofs.Common.{arith, ◌≡◌, ℕ, Bool, true, false, not, ◌&&◌, ◌||◌, [], ◌∷◌, ◌++◌, length, refl, sym, ◌∙◌, ap, subst, inl, inr, ◌==◌, chars, encode_utf8_all}
 use Rattle.std.proofs.{lemmas.Grind.{common_steps}, lemmas.Bool.{and_from, eqb-true, false_from_ne_true}}
 use Rattle.std.proofs.lemmas.Bool.Decides.{nat_tests}
 use Rattle.std.proofs.lemmas.Str.{encodes-chars, chars-nil, is_utf8-from_IsUtf8, IsUtf8-from_is_utf8}
 use Rattle.std.proofs.{lemmas.List.{nil_from_length}, Math.Logic.{◌↔◌}}
-use Rattle.std.specs.{Prelude.{◌==◌, chars, encode_utf8_all}, Bool.{Decides}, List.{list_all, list_any}}
-use Rattle.std.specs.Str.{is_utf8, IsUtf8}
+use Rattle.std.specs.{Bool.{Decides}, List.{list_all, list_any}, Str.{is_utf8, IsUtf8}}
 use Rattle.iref_grammar.specs.{Grammar.{colon, full_stop}, Rules.{Text, InUtf8, OneOf, Optional, ZeroOrMore, ◌⨾◌}}
 use Rattle.iref_grammar.specs.Texts.{is_empty, lacks}
 use Rattle.iref_grammar.proofs.TextLemmas.{first_of_both, second_of_both}

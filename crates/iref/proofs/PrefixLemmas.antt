@@ -1,13 +1,11 @@
 -- Prefix tables.
-use Rattle.std.proofs.Common.{◌≡◌, ◌≢◌, ◌<◌, ◌≤◌, Bool, true, false, ◌||◌, ◌&&◌, not, List, [], ◌∷◌, ◌++◌, length, map, take, drop, refl, sym, ◌∙◌, ap, subst, arith, ◌⊎◌, inl, inr}
+use Rattle.std.proofs.Common.{◌≡◌, ◌≢◌, ◌<◌, ◌≤◌, Bool, true, false, ◌||◌, ◌&&◌, not, List, [], ◌∷◌, ◌++◌, length, map, take, drop, refl, sym, ◌∙◌, ap, subst, arith, ◌⊎◌, inl, inr, bytes_eq, Option, Some, None, Result, Ok, Err, option_map, is_some, MatchOption, if◌then◌else◌, true≢false}
 use Rattle.std.proofs.{lemmas.Grind.{common_steps}, Math.Logic.{◌↔◌}}
 use Rattle.std.proofs.lemmas.Bool.{and_from, or_parts, or_from, not_from_false, cond_both, cond-true, cases_Bool}
 use Rattle.std.proofs.{lemmas.Option.{same_Some}, lemmas.List.{take-append-drop}, lemmas.List.Folds.{list_all-append}}
 use Rattle.std.proofs.lemmas.Bool.{not-true}
-use Rattle.std.specs.Prelude.{bytes_eq, Option, Some, None, Result, Ok, Err, option_map, is_some, MatchOption, if◌then◌else◌}
 use Rattle.std.specs.{Bool.{IsFalse}, List.{AllByRecursion, find, list_all, list_any}}
 use Rattle.std.specs.Cmp.Lexicographic.{bytes_decides}
-use mathlib.Core.Bool.{true≢false}
 use Rattle.iref_grammar.specs.{Characters.{iri_chars}, Rules.{Text}, Grammar.{colon}, Texts.{begins_with, lacks}}
 use Rattle.iref_grammar.specs.Reference.{is_uri}
 use Rattle.iref_grammar.proofs.{TextLemmas.{first_of_both, second_of_both}, CutLemmas.{before-mark, after-part}}

@@ -1,8 +1,8 @@
 -- The entries at places, as places change.
-use Rattle.std.proofs.Common.{arith, ◌≡◌, ◌≢◌, ℕ, zero, suc, ◌+◌, ◌≤◌, Bool, true, false, ◌||◌, not, List, [], ◌∷◌, ◌++◌, length, map, refl, sym, ap, ◌∙◌}
+use Rattle.std.proofs.Common.{arith, ◌≡◌, ◌≢◌, ℕ, zero, suc, ◌+◌, ◌≤◌, Bool, true, false, ◌||◌, not, List, [], ◌∷◌, ◌++◌, length, map, refl, sym, ap, ◌∙◌, Option, Some, None, if◌then◌else◌}
 use Rattle.std.proofs.lemmas.Bool.{both_ways, false_from_ne_true, or_parts, or_right}
 use Rattle.std.proofs.{lemmas.List.{get_or_append_left, set-get_or}, Math.ListN.{set}}
-use Rattle.std.specs.{Prelude.{Option, Some, None, if◌then◌else◌}, Cmp.Lexicographic.{bytes_decides}}
+use Rattle.std.specs.Cmp.Lexicographic.{bytes_decides}
 use Rattle.iref_grammar.specs.Rules.{Text}
 use Rattle.iref.specs.PrefixTable.{PrefixEntry, PrefixTable, has_label, is_taken, removed, with_iri}
 use Rattle.iref.specs.{PrefixPlaces.{AreWithin, entries_at, entry_at}, PrefixTree.{place_at}}

@@ -1,7 +1,7 @@
 -- The places of the entries that have one IRI.
-use Rattle.std.proofs.Common.{Ordering, arith, ◌≡◌, ℕ, ◌+◌, ◌<◌, ◌≤◌, Bool, true, false, cond, ◌&&◌, ◌||◌, not, List, [], ◌∷◌, refl, ap, subst, ◌∙◌}
+use Rattle.std.proofs.Common.{Ordering, arith, ◌≡◌, ℕ, ◌+◌, ◌<◌, ◌≤◌, Bool, true, false, cond, ◌&&◌, ◌||◌, not, List, [], ◌∷◌, refl, ap, subst, ◌∙◌, ◌==◌}
 use Rattle.std.proofs.{lemmas.Bool.{false_from_ne_true}, lemmas.Bool.Decides.{nat_tests}}
-use Rattle.std.specs.{Prelude.{◌==◌}, BTreeSet.{Updates, IsKeyRangeOf}, BTreeMap.Range.{IsInRange}}
+use Rattle.std.specs.{BTreeSet.{Updates, IsKeyRangeOf}, BTreeMap.Range.{IsInRange}}
 use Rattle.std.specs.declared.ops.Bound.TheVariants.{Included, Excluded}
 use Rattle.std.specs.Ordering.{nat_cmp, ordering_then, is_eq, is_gt}
 use Rattle.iref.specs.{PrefixPlaces.{holds}, declared.compact.shared.Shared.{Shared}}

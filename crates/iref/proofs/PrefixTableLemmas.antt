@@ -1,6 +1,6 @@
 -- What the calls of prefix tables answer, case by case.
-use Rattle.std.proofs.Common.{arith, ◌≡◌, ◌≢◌, true, false, [], ◌∷◌, ◌++◌, length, map, drop, sym, ap, subst, ◌∙◌}
-use Rattle.std.specs.{Prelude.{Option, Some, None, Ok, Err, IsOk, option_map, is_some}, List.{find}}
+use Rattle.std.proofs.Common.{arith, ◌≡◌, ◌≢◌, true, false, [], ◌∷◌, ◌++◌, length, map, drop, sym, ap, subst, ◌∙◌, Option, Some, None, Ok, Err, IsOk, option_map, is_some}
+use Rattle.std.specs.List.{find}
 use Rattle.iref_grammar.specs.{Characters.{iri_chars, iri_above_ascii}, Reference.{is_uri}, Rules.{Text, InUtf8}}
 use Rattle.iref_grammar.specs.{Grammar.{colon, IsUri}, Texts.{before, after, begins_with}}
 use Rattle.iref_grammar.proofs.ReferenceRuleLemmas.{Decides-is_uri}

@@ -1,8 +1,8 @@
 -- Where a text leads in a tree.
-use Rattle.std.proofs.Common.{arith, Bool, ◌≡◌, ◌≢◌, ℕ, ◌+◌, ◌-◌, ◌*◌, ◌<◌, ◌≤◌, ◌⊎◌, inl, inr, List, [], length, get_or, refl, sym, ap, subst, ◌∙◌, ⊎_elim}
+use Rattle.std.proofs.Common.{arith, Bool, ◌≡◌, ◌≢◌, ℕ, ◌+◌, ◌-◌, ◌*◌, ◌<◌, ◌≤◌, ◌⊎◌, inl, inr, List, [], length, get_or, refl, sym, ap, subst, ◌∙◌, ⊎_elim, min, Option, Some, None, MatchOption}
 use Rattle.std.proofs.{lemmas.Bool.{cases_lt, cases_order, lt-ltb}, lemmas.List.{get_or_read}}
 use Rattle.std.proofs.Math.Nat.{min-eq_left, min-eq_right, min-le_left, min-le_right}
-use Rattle.std.specs.{Prelude.{min, Option, Some, None, MatchOption}, Option.{option_or}}
+use Rattle.std.specs.Option.{option_or}
 use Rattle.iref_grammar.specs.Rules.{Text}
 use Rattle.iref.specs.{declared.compact.entry.Lead.{Lead}, declared.compact.tree.Child.{Child}}
 use Rattle.iref.specs.{declared.compact.tree.Child.TheVariants.{Inner, Leaf}, declared.compact.tree.Node.{Node}}

@@ -1,7 +1,7 @@
 -- The order of two texts, by the first bytes that differ, and of two sort keys.
-use Rattle.std.proofs.Common.{◌≡◌, ◌≢◌, ℕ, zero, suc, ◌+◌, ◌<◌, [], ◌∷◌, cond, length, get_or, sym, ◌∙◌, ap, arith, inl, inr, refl}
+use Rattle.std.proofs.Common.{◌≡◌, ◌≢◌, ℕ, zero, suc, ◌+◌, ◌<◌, [], ◌∷◌, cond, length, get_or, sym, ◌∙◌, ap, arith, inl, inr, refl, nat_eq}
 use Rattle.std.proofs.lemmas.Bool.{cases_eq, cases_lt, eq-eqb, ne_eqb}
-use Rattle.std.specs.{Prelude.{nat_eq}, List.{common_prefix_len}, Cmp.{nat_cmp_is}, Ordering.{nat_cmp, ordering_then}}
+use Rattle.std.specs.{List.{common_prefix_len}, Cmp.{nat_cmp_is}, Ordering.{nat_cmp, ordering_then}}
 use Rattle.std.specs.declared.cmp.Ordering.TheVariants.{Less, Equal, Greater}
 use Rattle.iref_grammar.specs.{Keys.{text_order}, Reference.{ReferenceValue}, Rules.{Text}}
 use Rattle.iref_model.specs.Key.{key_cmp}

@@ -1,8 +1,7 @@
 -- Laws of the answers to lines.
-use Rattle.std.proofs.Common.{◌≡◌, ◌≢◌, true, ◌&&◌, List, [], ◌∷◌, refl, sym, ◌∙◌, ap, subst, arith}
+use Rattle.std.proofs.Common.{◌≡◌, ◌≢◌, true, ◌&&◌, List, [], ◌∷◌, refl, sym, ◌∙◌, ap, subst, arith, true≢false}
 use Rattle.std.proofs.{lemmas.Grind.{common_steps}, lemmas.Bool.{and_parts}, lemmas.Option.{same_Some}}
 use Rattle.std.specs.{Prelude.{Option, Some, None, option_map, unwrap_or, is_some}, List.{list_all}}
-use mathlib.Core.Bool.{true≢false}
 use Rattle.iref.specs.Characters.{CharTests, AreAboveAscii, uri_chars, iri_chars, iri_above_ascii}
 use Rattle.iref.specs.{Rules.{Text, InUtf8}, Grammar.{IsUriReference}, Reference.{read_reference, is_uri}}
 use Rattle.iref.specs.{Key.{key, are_alike}, Mapping.{mapped}, declared.compact.label.Labels.TheVariants.{Ascii}}

@@ -1,7 +1,7 @@
 -- A text that is valid as one of URIs is valid in each set.
-use Rattle.std.proofs.Common.{arith, ◌≡◌, Bool, true, ◌&&◌, List, [], ◌∷◌, refl, sym, ◌∙◌}
+use Rattle.std.proofs.Common.{arith, ◌≡◌, Bool, true, ◌&&◌, List, [], ◌∷◌, refl, sym, ◌∙◌, Option, Some, None, is_some}
 use Rattle.std.proofs.{lemmas.Grind.{common_steps}, lemmas.Bool.{and_from, and_parts}}
-use Rattle.std.specs.{Prelude.{Option, Some, None, is_some}, List.{list_all}, Str.{is_utf8}}
+use Rattle.std.specs.{List.{list_all}, Str.{is_utf8}}
 use Rattle.iref.specs.{Characters.{CharTests, AreAboveAscii, uri_chars, uri_above_ascii}, Rules.{Text}}
 use Rattle.iref.specs.Grammar.{is_user_info_char, is_path_char, is_query_char, is_fragment_char}
 use Rattle.iref.specs.Tests.{is_user_info, is_host, is_segment, is_path, is_query, is_fragment, none_or}

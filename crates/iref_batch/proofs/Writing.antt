@@ -1,6 +1,6 @@
 -- Writing in pieces.
-use Rattle.std.specs.{Prelude.{OnErr}, Io.KnownBytes.{Appends, Keeps}}
-use Rattle.std.proofs.Common.{arith, ◌≡◌, ◌==◌, ◌-◌, ◌++◌, ℕ, true, [], Option, Some, refl, ap, ◌∙◌, append-nil, length, take, drop, Result}
+use Rattle.std.specs.Io.KnownBytes.{Appends, Keeps}
+use Rattle.std.proofs.Common.{arith, ◌≡◌, ◌==◌, ◌-◌, ◌++◌, ℕ, true, [], Option, Some, refl, ap, ◌∙◌, append-nil, length, take, drop, Result, OnErr}
 use Rattle.std.proofs.{lemmas.Grind.{common_steps}, lemmas.List.{take_rest, nil_from_length}}
 use Rattle.iref.specs.Rules.{Text}
 use Rattle.iref_batch.specs.Gathering.{Writes, WritesPart, Gains}

@@ -1,8 +1,7 @@
 -- Equality, order and hash of references agree.
-use Rattle.std.proofs.Common.{◌≡◌, ◌↔◌, Bool, true, false, refl, ap, fold, arith}
-use Rattle.std.specs.{Prelude.{pos}, declared.hash.DefaultHasher.{DefaultHasher}, Hash.DefaultHasher.{finish, write}}
-use Rattle.std.specs.{Ordering.{is_eq}, declared.cmp.Ordering.{Ordering}}
-use Rattle.std.specs.declared.cmp.Ordering.TheVariants.{Less, Equal, Greater}
+use Rattle.std.proofs.Common.{◌≡◌, ◌↔◌, Bool, true, false, refl, ap, fold, arith, pos}
+use Rattle.std.specs.{declared.hash.DefaultHasher.{DefaultHasher}, Hash.DefaultHasher.{finish, write}, Ordering.{is_eq}}
+use Rattle.std.specs.{declared.cmp.Ordering.{Ordering}, declared.cmp.Ordering.TheVariants.{Less, Equal, Greater}}
 use Rattle.iref.specs.{Key.{are_alike, key, key_cmp}, Reference.{ReferenceValue}, Hashed.{fed_reference}}
 use Rattle.iref.proofs.KeyOrderLemmas.{keys_separate}
 use Rattle.iref_c.specs.Comparison.{equal_number, hash_from, number_of_equality, number_of_order, order_number}

@@ -1,6 +1,5 @@
 -- Where the parts of an authority stand, by the lengths of its slices.
-use Rattle.std.proofs.Common.{◌≡◌, ℕ, ◌+◌, [], ◌∷◌, length, refl, ap, ◌∙◌, length-append, arith}
-use Rattle.std.specs.Prelude.{Option, Some, None, IfSome, option_map}
+use Rattle.std.proofs.Common.{◌≡◌, ℕ, ◌+◌, [], ◌∷◌, length, refl, ap, ◌∙◌, length-append, arith, Option, Some, None, IfSome, option_map}
 use Rattle.iref.specs.{Rules.{Text}, Grammar.{at_sign, colon}, Texts.{part_then, then_part}}
 use Rattle.iref.specs.{Authority.{AuthorityValue, read_authority, spell_authority}, Offsets.{Offsets}}
 use Rattle.iref.specs.{Reference.{ReferenceValue}, ComponentOffsets.{authority_mark, range_from, offsets_in}}

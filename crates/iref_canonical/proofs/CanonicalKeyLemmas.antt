@@ -1,8 +1,6 @@
 -- Canonical references: they are readable, and the key of each is the key that it was made of.
-use Rattle.std.proofs.Common.{◌≡◌, Bool, true, false, All, List, [], ◌∷◌, map, refl, sym, ◌∙◌, ap, subst, arith}
-use Rattle.std.specs.{Prelude.{Option, Some, None, option_map, IfSome, is_some}, List.{AllByRecursion}}
-use Rattle.std.specs.Str.{str_to_ascii_lowercase}
-use mathlib.Core.Bool.{true≢false}
+use Rattle.std.proofs.Common.{◌≡◌, Bool, true, false, All, List, [], ◌∷◌, map, refl, sym, ◌∙◌, ap, subst, arith, Option, Some, None, option_map, IfSome, is_some, true≢false}
+use Rattle.std.specs.{List.{AllByRecursion}, Str.{str_to_ascii_lowercase}}
 use Rattle.percent_encoding.specs.Percent.{percent_decode}
 use Rattle.percent_encoding.proofs.PercentLemmas.{IsByte, All-percent_decode}
 use Rattle.iref_grammar.specs.declared.context.PathContext.{PathContext}

@@ -1,8 +1,7 @@
 -- How long canonical texts are.
-use Rattle.std.proofs.Common.{arith, ◌≡◌, ℕ, ◌+◌, ◌*◌, ◌≤◌, Bool, true, false, List, [], ◌∷◌, ◌++◌, Option, Some, None, length, refl, ap, length-append}
+use Rattle.std.proofs.Common.{arith, ◌≡◌, ℕ, ◌+◌, ◌*◌, ◌≤◌, Bool, true, false, List, [], ◌∷◌, ◌++◌, Option, Some, None, length, refl, ap, length-append, map, option_map, codes, if◌then◌else◌, cond, not, ◌&&◌}
 use Rattle.std.proofs.{lemmas.Bool.Decides.{nat_tests}, lemmas.List.{length-map}, lemmas.Slice.Eq.{bytes_eq-Decides}}
-use Rattle.std.specs.{Char.{to_ascii_lowercase}, List.{join_with_byte}}
-use Rattle.std.specs.{Prelude.{map, option_map, codes, if◌then◌else◌, cond, not, ◌&&◌}, Str.{str_to_ascii_lowercase}}
+use Rattle.std.specs.{Char.{to_ascii_lowercase}, List.{join_with_byte}, Str.{str_to_ascii_lowercase}}
 use Rattle.percent_encoding.specs.Percent.{percent_decode, percent_encode_byte}
 use Rattle.percent_encoding.proofs.PercentLemmas.{length-percent_decode}
 use Rattle.iref_grammar.specs.{Authority.{AuthorityValue, spell_authority}, Characters.{uri_chars}}

@@ -1,8 +1,7 @@
 -- The canonical components of a key are in their rules, and have it as their key.
-use Rattle.std.proofs.Common.{◌≡◌, ℕ, Bool, true, false, cond, ◌||◌, All, [], ◌∷◌, refl, ap, arith}
+use Rattle.std.proofs.Common.{◌≡◌, ℕ, Bool, true, false, cond, ◌||◌, All, [], ◌∷◌, refl, ap, arith, Option, Some, None, option_map, IfSome}
 use Rattle.std.proofs.{lemmas.Grind.{common_steps}, lemmas.Bool.{and_from, or_right}, lemmas.Bool.Decides.{nat_tests}}
-use Rattle.std.specs.{Prelude.{Option, Some, None, option_map, IfSome}, Char.{is_ascii_alphabetic, to_ascii_lowercase}}
-use Rattle.std.specs.{List.{list_all}, Str.{str_to_ascii_lowercase}}
+use Rattle.std.specs.{Char.{is_ascii_alphabetic, to_ascii_lowercase}, List.{list_all}, Str.{str_to_ascii_lowercase}}
 use Rattle.percent_encoding.specs.Percent.{percent_sign, percent_decode}
 use Rattle.percent_encoding.proofs.PercentLemmas.{IsByte, percent_decode-nil, percent_decode_not_percent}
 use Rattle.iref_grammar.specs.{Characters.{uri_chars, uri_above_ascii}, Rules.{Text}}

@@ -1,9 +1,8 @@
 -- Canonical paths: each is its own normal path, and its key is the key that it was made of.
-use Rattle.std.proofs.Common.{◌≡◌, suc, Bool, true, false, not, cond, ◌&&◌, All, List, [], ◌∷◌, ◌++◌, map, ◌+◌, ◌||◌, refl, sym, ◌∙◌, ap, subst, arith}
+use Rattle.std.proofs.Common.{◌≡◌, suc, Bool, true, false, not, cond, ◌&&◌, All, List, [], ◌∷◌, ◌++◌, map, ◌+◌, ◌||◌, refl, sym, ◌∙◌, ap, subst, arith, codes, bytes_eq, true≢false}
 use Rattle.std.proofs.lemmas.Bool.{and_from, and_parts, cond-false, not-true}
-use Rattle.std.specs.{Prelude.{codes, bytes_eq}, Str.{is_utf8, chars}, Char.{encode_utf8}}
+use Rattle.std.specs.{Str.{is_utf8, chars}, Char.{encode_utf8}}
 use Rattle.std.specs.{List.{AllByRecursion, list_all}, Cmp.Lexicographic.{bytes_decides}}
-use mathlib.Core.Bool.{true≢false}
 use Rattle.percent_encoding.specs.Percent.{percent_decode}
 use Rattle.percent_encoding.proofs.PercentLemmas.{IsByte}
 use Rattle.iref_grammar.specs.{declared.context.PathContext.{PathContext}, Rules.{Text}}

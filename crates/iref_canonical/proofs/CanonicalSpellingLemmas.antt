@@ -1,6 +1,6 @@
 -- The canonical text of a reference, and the one that is hashed, from the texts of its components.
-use Rattle.std.proofs.Common.{◌≡◌, Bool, ◌∷◌, ◌++◌, [], refl, sym, ◌∙◌, ap, arith}
-use Rattle.std.specs.{Prelude.{Option, Some, None, codes, is_some, option_map}, Str.{str_to_ascii_lowercase}}
+use Rattle.std.proofs.Common.{◌≡◌, Bool, ◌∷◌, ◌++◌, [], refl, sym, ◌∙◌, ap, arith, Option, Some, None, codes, is_some, option_map}
+use Rattle.std.specs.Str.{str_to_ascii_lowercase}
 use Rattle.percent_encoding.specs.Percent.{percent_decode}
 use Rattle.iref_grammar.specs.{Characters.{uri_chars}, ComponentTexts.{ComponentTexts, read_components}}
 use Rattle.iref_grammar.specs.Grammar.{colon, hash_sign, is_fragment_char, question_mark}

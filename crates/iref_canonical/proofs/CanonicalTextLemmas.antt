@@ -1,6 +1,6 @@
 -- Canonical texts of readable references and of texts in the grammar.
-use Rattle.std.proofs.{Common.{◌≡◌, true, refl, sym, ◌∙◌, ap, subst}, Math.Logic.{◌↔◌}}
-use Rattle.std.specs.{Char.{is_ascii}, List.{list_all}, Prelude.{IsUtf8}}
+use Rattle.std.proofs.{Common.{◌≡◌, true, refl, sym, ◌∙◌, ap, subst, IsUtf8}, Math.Logic.{◌↔◌}}
+use Rattle.std.specs.{Char.{is_ascii}, List.{list_all}}
 use Rattle.iref_grammar.specs.{Characters.{CharTests, AreAboveAscii, uri_chars, uri_above_ascii}, Rules.{Text, InUtf8}}
 use Rattle.iref_grammar.specs.Grammar.{IsUri, IsUriReference}
 use Rattle.iref_grammar.specs.Reference.{ReferenceValue, IsReadable, read_reference, is_reference, is_uri}

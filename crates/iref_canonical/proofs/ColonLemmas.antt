@@ -1,6 +1,6 @@
 -- Whether a text, or what it decodes to, has a certain character.
-use Rattle.std.proofs.{Common.{◌≡◌, ℕ, false, ◌||◌, [], ◌∷◌, ◌++◌, ◌∙◌, ap, arith}, lemmas.Bool.Decides.{nat_tests}}
-use Rattle.std.specs.{Prelude.{◌==◌}, Char.{char_set_contains}}
+use Rattle.std.proofs.{Common.{◌≡◌, ℕ, false, ◌||◌, [], ◌∷◌, ◌++◌, ◌∙◌, ap, arith, ◌==◌}, lemmas.Bool.Decides.{nat_tests}}
+use Rattle.std.specs.Char.{char_set_contains}
 use Rattle.percent_encoding.specs.Percent.{percent_decode}
 use Rattle.percent_encoding.proofs.PercentLemmas.{percent_decode-nil}
 use Rattle.iref_grammar.specs.Rules.{Text}

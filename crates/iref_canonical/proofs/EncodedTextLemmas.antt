@@ -1,9 +1,8 @@
 -- Texts encoded for a set of characters of ASCII: decoding gives the bytes back, and the text is in the rule of the set.
-use Rattle.std.proofs.Common.{◌≡◌, ℕ, ◌/◌, ◌%◌, Bool, true, false, All, [], ◌∷◌, ◌++◌, refl, sym, ◌∙◌, ap, arith}
+use Rattle.std.proofs.Common.{◌≡◌, ℕ, ◌/◌, ◌%◌, Bool, true, false, All, [], ◌∷◌, ◌++◌, refl, sym, ◌∙◌, ap, arith, true≢false}
 use Rattle.std.proofs.{lemmas.Bool.{cond-true, cond-false, and_from}, lemmas.List.Elements.{All-head, All-tail}}
 use Rattle.std.proofs.lemmas.List.Folds.{list_all-append}
 use Rattle.std.specs.{Char.{is_ascii}, Fmt.{digit_glyph}, List.{list_all}}
-use mathlib.Core.Bool.{true≢false}
 use Rattle.percent_encoding.specs.Percent.{percent_sign, percent_encode_byte, percent_decode}
 use Rattle.percent_encoding.proofs.PercentLemmas.{IsByte, percent_decode-nil, percent_decode_not_percent, percent_decode-percent_encode_byte}
 use Rattle.iref_grammar.specs.{Rules.{Text, InUtf8}, Grammar.{IsEncoded}, Tests.{is_encoded, is_encoded_after}}

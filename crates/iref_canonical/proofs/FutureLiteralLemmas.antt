@@ -1,7 +1,7 @@
 -- An address of a future version in brackets is what is read from its first byte to its last.
-use Rattle.std.proofs.Common.{◌≡◌, ℕ, Bool, true, false, ◌&&◌, [], ◌∷◌, refl, ap, arith}
+use Rattle.std.proofs.Common.{◌≡◌, ℕ, Bool, true, false, ◌&&◌, [], ◌∷◌, refl, ap, arith, ◌==◌, codes, Some}
 use Rattle.std.proofs.lemmas.Bool.Decides.{nat_tests}
-use Rattle.std.specs.{Prelude.{◌==◌, codes, Some}, List.{list_all}, Char.{is_ascii_hexdigit, char_set_contains}}
+use Rattle.std.specs.{List.{list_all}, Char.{is_ascii_hexdigit, char_set_contains}}
 use Rattle.iref_grammar.specs.{Grammar.{full_stop, left_bracket, right_bracket, is_future_char}, Rules.{Text}}
 use Rattle.iref_grammar.specs.Texts.{before, after, after_first_char, is_empty}
 use Rattle.iref_grammar.specs.Tests.{ends_here, in_brackets, is_future_address, is_future_version, is_ipvfuture, some_and}

@@ -1,10 +1,9 @@
 -- What is hashed of a component, of an authority's parts and of components determines its key.
-use Rattle.std.proofs.Common.{◌≡◌, ℕ, Bool, true, false, not, ◌||◌, ◌==◌, cond, List, [], ◌∷◌, ◌++◌, refl, sym, ◌∙◌, ap, arith, append_assoc}
+use Rattle.std.proofs.Common.{◌≡◌, ℕ, Bool, true, false, not, ◌||◌, ◌==◌, cond, List, [], ◌∷◌, ◌++◌, refl, sym, ◌∙◌, ap, arith, append_assoc, Some, None}
 use Rattle.std.proofs.{lemmas.Bool.{and_from, and_parts}, lemmas.Bool.Decides.{nat_tests}}
 use Rattle.std.proofs.{lemmas.Grind.{flat_map-append}, lemmas.List.{append-nil}}
 use Rattle.std.proofs.lemmas.List.Folds.{concat-append, list_all-append}
-use Rattle.std.specs.{Prelude.{Some, None}, Str.{str_to_ascii_lowercase}, Hash.{HashWrites, le_bytes, option}}
-use Rattle.std.specs.List.{concat, list_all}
+use Rattle.std.specs.{Str.{str_to_ascii_lowercase}, Hash.{HashWrites, le_bytes, option}, List.{concat, list_all}}
 use Rattle.percent_encoding.specs.Percent.{percent_decode, percent_encode_byte, percent_sign}
 use Rattle.percent_encoding.proofs.PercentLemmas.{percent_decode-nil, percent_decode_not_percent, percent_decode-percent_encode_byte}
 use Rattle.iref_grammar.specs.{Authority.{AuthorityValue}, Reference.{ReferenceValue}, Rules.{Text}}

@@ -1,10 +1,8 @@
 -- The text that is hashed of a key: its mapping is the canonical text, and no byte of it is 255.
-use Rattle.std.proofs.Common.{◌≡◌, ℕ, Bool, true, false, not, cond, ◌&&◌, ◌||◌, ◌==◌, List, [], ◌∷◌, ◌++◌, map, refl, sym, ◌∙◌, ap, arith}
+use Rattle.std.proofs.Common.{◌≡◌, ℕ, Bool, true, false, not, cond, ◌&&◌, ◌||◌, ◌==◌, List, [], ◌∷◌, ◌++◌, map, refl, sym, ◌∙◌, ap, arith, Option, Some, None, IfSome, codes, option_map, true≢false}
 use Rattle.std.proofs.{lemmas.Bool.{and_from, and_parts}, lemmas.Bool.Decides.{nat_tests}, lemmas.List.{append-nil}}
 use Rattle.std.proofs.lemmas.List.Folds.{list_all-append}
-use Rattle.std.specs.{Prelude.{Option, Some, None, IfSome, codes, option_map}, Char.{is_ascii}}
-use Rattle.std.specs.{Cmp.Lexicographic.{bytes_decides}, List.{list_all, join_with_byte}}
-use mathlib.Core.Bool.{true≢false}
+use Rattle.std.specs.{Char.{is_ascii}, Cmp.Lexicographic.{bytes_decides}, List.{list_all, join_with_byte}}
 use Rattle.percent_encoding.specs.Percent.{percent_encode_byte}
 use Rattle.iref_grammar.specs.{declared.context.PathContext.{PathContext}, Authority.{AuthorityValue, spell_authority}}
 use Rattle.iref_grammar.specs.{Characters.{uri_chars}, Contexts.{reads_as_path}}

@@ -1,7 +1,6 @@
 -- Each component of a text without escapes, whose bytes stand in sort keys as they are, is such a text.
-use Rattle.std.proofs.Common.{arith, ◌≡◌, ◌+◌, Bool, true, ◌++◌, ◌∷◌, [], List, length, refl, sym, ◌∙◌, ap, Option, Some, None, length-append}
+use Rattle.std.proofs.Common.{arith, ◌≡◌, ◌+◌, Bool, true, ◌++◌, ◌∷◌, [], List, length, refl, sym, ◌∙◌, ap, Option, Some, None, length-append, codes, option_map}
 use Rattle.std.proofs.{lemmas.Bool.{and_from, and_parts}, lemmas.List.Folds.{list_all-append}}
-use Rattle.std.specs.Prelude.{codes, option_map}
 use Rattle.iref_grammar.specs.Authority.{AuthorityValue, spell_authority}
 use Rattle.iref_grammar.specs.{Grammar.{colon, at_sign, question_mark, hash_sign}, PathValue.{spell_path}}
 use Rattle.iref_grammar.specs.{Reference.{ReferenceValue, spell, read_reference}, Rules.{Text}, Tests.{none_or}}

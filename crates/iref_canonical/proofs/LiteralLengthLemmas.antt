@@ -1,10 +1,7 @@
 -- An IPv6 address in brackets has at most 47 bytes, and any IP literal that has more is of a future version.
-use Rattle.std.proofs.Common.{◌≡◌, ℕ, ◌+◌, ◌*◌, ◌/◌, ◌%◌, ◌<◌, ◌≤◌, Bool, true, false, ◌&&◌, ◌||◌, List, [], ◌∷◌, ◌++◌, length, refl, sym, ◌∙◌, ap, arith, ◌⊎◌, inl, inr, lit<, length-append}
+use Rattle.std.proofs.Common.{◌≡◌, ℕ, ◌+◌, ◌*◌, ◌/◌, ◌%◌, ◌<◌, ◌≤◌, Bool, true, false, ◌&&◌, ◌||◌, List, [], ◌∷◌, ◌++◌, length, refl, sym, ◌∙◌, ap, arith, ◌⊎◌, inl, inr, lit<, length-append, ◌==◌, slice_index, Option, Some, None, codes, decimal, is_some, nat_le, lt_trans, true≢false}
 use Rattle.std.proofs.{lemmas.Grind.{common_steps}, lemmas.Fmt.{length-decimal-le}, lemmas.Bool.Decides.{nat_tests}}
-use Rattle.std.specs.Prelude.{◌==◌, slice_index, Option, Some, None, codes, decimal, is_some, nat_le}
 use Rattle.std.specs.{List.{AllZip, join_with_byte}, Str.{IsUtf8}}
-use native.Mathlib.Nat.{lt_trans}
-use mathlib.Core.Bool.{true≢false}
 use Rattle.percent_encoding.specs.Percent.{percent_decode}
 use Rattle.percent_encoding.proofs.PercentLemmas.{percent_decode-nil, percent_decode_not_percent}
 use Rattle.iref_grammar.specs.{Rules.{Text}, Grammar.{left_bracket, percent_sign, right_bracket}}

@@ -1,7 +1,7 @@
 -- Names that do not decode to dots: long ones, and those that begin with neither a dot nor an escape.
-use Rattle.std.proofs.Common.{◌≡◌, ◌<◌, Bool, true, false, [], ◌∷◌, length, refl, ap, arith}
+use Rattle.std.proofs.Common.{◌≡◌, ◌<◌, Bool, true, false, [], ◌∷◌, length, refl, ap, arith, codes}
 use Rattle.std.proofs.{lemmas.Bool.Decides.{nat_tests}, lemmas.Slice.Eq.{bytes_eq-Decides}}
-use Rattle.std.specs.{Prelude.{codes}, Str.{bytes_eq}}
+use Rattle.std.specs.Str.{bytes_eq}
 use Rattle.percent_encoding.specs.Percent.{percent_decode}
 use Rattle.percent_encoding.proofs.PercentLemmas.{length-percent_decode, percent_decode-nil, percent_decode_not_percent}
 use Rattle.iref_grammar.specs.Rules.{Text}

@@ -1,7 +1,7 @@
 -- Texts behind which more bytes can be read: where a delimiter is in them.
-use Rattle.std.proofs.Common.{arith, ◌≡◌, ℕ, zero, suc, ◌+◌, ◌<◌, ◌≤◌, ◌∷◌, [], length, take, drop, refl, ◌∙◌, ap}
+use Rattle.std.proofs.Common.{arith, ◌≡◌, ℕ, zero, suc, ◌+◌, ◌<◌, ◌≤◌, ◌∷◌, [], length, take, drop, refl, ◌∙◌, ap, Some, min}
 use Rattle.std.proofs.{lemmas.Bool.Decides.{nat_tests}, lemmas.Grind.{common_steps}}
-use Rattle.std.specs.{Char.{char_set_contains}, List.{position_or_len}, Prelude.{Some, min}}
+use Rattle.std.specs.{Char.{char_set_contains}, List.{position_or_len}}
 use Rattle.iref_grammar.specs.{Rules.{Text}, Texts.{after, after_first_char}}
 
 abbrev pub first_of : ℕ → Text → ℕ

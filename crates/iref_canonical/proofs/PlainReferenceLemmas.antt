@@ -1,10 +1,9 @@
 -- A reference whose text has no escape, no dot segment and no upper-case letter in the scheme stands as it is, if it is ASCII or bytes
 -- beyond ASCII stand raw.
-use Rattle.std.proofs.Common.{◌≡◌, ℕ, Bool, true, false, not, cond, ◌||◌, List, [], ◌∷◌, ◌++◌, map, refl, sym, ◌∙◌, ap, arith}
+use Rattle.std.proofs.Common.{◌≡◌, ℕ, Bool, true, false, not, cond, ◌||◌, List, [], ◌∷◌, ◌++◌, map, refl, sym, ◌∙◌, ap, arith, Option, Some, None, option_map, codes, true≢false}
 use Rattle.std.proofs.{lemmas.Bool.{and_from, and_parts, cond-false, not-true}, lemmas.Bool.Decides.{nat_tests}}
-use Rattle.std.specs.{Prelude.{Option, Some, None, option_map, codes}, List.{list_all, join_with_byte}}
+use Rattle.std.specs.List.{list_all, join_with_byte}
 use Rattle.std.specs.{Str.{str_to_ascii_lowercase}, Char.{is_ascii, to_ascii_lowercase}}
-use mathlib.Core.Bool.{true≢false}
 use Rattle.percent_encoding.specs.Percent.{percent_decode, percent_encode_byte, percent_sign}
 use Rattle.iref_grammar.specs.{Characters.{CharTests, AreAboveAscii, uri_chars}, Rules.{Text}}
 use Rattle.iref_grammar.specs.Grammar.{slash, colon, question_mark, hash_sign, at_sign, is_path_char, is_query_char, is_fragment_char, is_user_info_char, is_reg_name_char}

@@ -1,11 +1,9 @@
 -- Texts without `%`: each is what it decodes to, and what it is when encoded, if it is ASCII or bytes beyond ASCII stand raw.
-use Rattle.std.proofs.Common.{◌≡◌, ℕ, Bool, true, false, ◌&&◌, ◌||◌, List, [], ◌∷◌, ◌++◌, refl, sym, ◌∙◌, ap, subst, arith, not, ◌==◌}
+use Rattle.std.proofs.Common.{◌≡◌, ℕ, Bool, true, false, ◌&&◌, ◌||◌, List, [], ◌∷◌, ◌++◌, refl, sym, ◌∙◌, ap, subst, arith, not, ◌==◌, IsUtf8, chars, encode_utf8_all, true≢false}
 use Rattle.std.proofs.{lemmas.Bool.{and_from, and_parts, not-true, or_right}, lemmas.Bool.Decides.{nat_tests}}
 use Rattle.std.proofs.{lemmas.Grind.{common_steps}, lemmas.List.Folds.{list_all-append}, Math.Utf8.{scalar}}
 use Rattle.std.proofs.lemmas.Str.{chars-encodes}
-use Rattle.std.specs.{Prelude.{IsUtf8, chars, encode_utf8_all}, Char.{encode_utf8, is_ascii}}
-use Rattle.std.specs.{List.{list_all, join_with_byte}, Str.{all_scalars, is_utf8}}
-use mathlib.Core.Bool.{true≢false}
+use Rattle.std.specs.{Char.{encode_utf8, is_ascii}, List.{list_all, join_with_byte}, Str.{all_scalars, is_utf8}}
 use Rattle.percent_encoding.specs.Percent.{percent_sign, percent_decode}
 use Rattle.iref_grammar.specs.{Rules.{Text}, Grammar.{is_not_percent}, Tests.{is_encoded, is_encoded_after, in_utf8}}
 use Rattle.iref_grammar.proofs.{EncodedLemmas.{by_char, if_taken}, TextLemmas.{first_of_both, second_of_both}}

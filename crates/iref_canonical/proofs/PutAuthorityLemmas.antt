@@ -1,7 +1,7 @@
 -- An authority as it is put: its parts in their order, the host encoded for one of two sets.
-use Rattle.std.proofs.Common.{◌≡◌, ℕ, Bool, true, false, not, cond, ◌&&◌, ◌||◌, [], ◌∷◌, ◌++◌, None, refl, sym, ◌∙◌, ap, inl}
+use Rattle.std.proofs.Common.{◌≡◌, ℕ, Bool, true, false, not, cond, ◌&&◌, ◌||◌, [], ◌∷◌, ◌++◌, None, refl, sym, ◌∙◌, ap, inl, option_map}
 use Rattle.std.proofs.{lemmas.Bool.{and_parts, cond-false}, lemmas.List.{append-nil}}
-use Rattle.std.specs.{Prelude.{option_map}, Option.{option_copied}, Char.{is_ascii}, List.{list_all}}
+use Rattle.std.specs.{Option.{option_copied}, Char.{is_ascii}, List.{list_all}}
 use Rattle.percent_encoding.specs.AsciiSet.{should_percent_encode}
 use Rattle.percent_encoding.specs.Percent.{percent_decode, percent_encode_byte, percent_sign}
 use Rattle.iref_grammar.specs.{Authority.{AuthorityValue, read_authority, spell_authority}, Characters.{uri_chars}}

@@ -1,6 +1,6 @@
 -- An absolute path behind an authority, as it is put.
-use Rattle.std.proofs.Common.{◌≡◌, ℕ, Bool, true, false, cond, List, [], ◌∷◌, ◌++◌, map, length, refl, sym, ◌∙◌, ap}
-use Rattle.std.specs.{Prelude.{codes, ◌==◌}, List.{join_with_byte}}
+use Rattle.std.proofs.Common.{◌≡◌, ℕ, Bool, true, false, cond, List, [], ◌∷◌, ◌++◌, map, length, refl, sym, ◌∙◌, ap, codes, ◌==◌}
+use Rattle.std.specs.List.{join_with_byte}
 use Rattle.percent_encoding.specs.Percent.{percent_decode}
 use Rattle.percent_encoding.proofs.PercentLemmas.{percent_decode-nil}
 use Rattle.iref_grammar.specs.{declared.context.PathContext.{PathContext}, Grammar.{slash}}

@@ -1,9 +1,8 @@
 -- What decides on the guard of a canonical path: whether the first item is empty, and whether it has a `:`.
-use Rattle.std.proofs.Common.{◌≡◌, ℕ, ◌/◌, ◌%◌, ◌<◌, Bool, true, false, not, cond, ◌&&◌, ◌||◌, List, [], ◌∷◌, ◌++◌, map, length, refl, sym, ◌∙◌, ap, arith}
+use Rattle.std.proofs.Common.{◌≡◌, ℕ, ◌/◌, ◌%◌, ◌<◌, Bool, true, false, not, cond, ◌&&◌, ◌||◌, List, [], ◌∷◌, ◌++◌, map, length, refl, sym, ◌∙◌, ap, arith, codes, ◌==◌, true≢false}
 use Rattle.std.proofs.lemmas.Bool.Decides.{nat_tests}
-use Rattle.std.specs.{Prelude.{codes, ◌==◌}, Char.{char_set_contains}, Fmt.{digit_glyph}, List.{join_with_byte}}
+use Rattle.std.specs.{Char.{char_set_contains}, Fmt.{digit_glyph}, List.{join_with_byte}}
 use Rattle.std.specs.Cmp.Lexicographic.{bytes_decides}
-use mathlib.Core.Bool.{true≢false}
 use Rattle.percent_encoding.specs.Percent.{percent_decode, percent_encode_byte}
 use Rattle.percent_encoding.proofs.PercentLemmas.{percent_decode-nil}
 use Rattle.iref_grammar.specs.{declared.context.PathContext.{PathContext}, Characters.{uri_chars}}

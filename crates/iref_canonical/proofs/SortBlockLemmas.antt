@@ -1,9 +1,9 @@
 -- Segments put in blocks of 16 bytes, each up to its first slash.
-use Rattle.std.proofs.Common.{arith, false, ◌&&◌, ◌||◌, get_or, get_or-drop, get_or-take, ⊎_elim, ◌≡◌, ℕ, zero, suc, ◌+◌, ◌-◌, ◌<◌, ◌≤◌, ◌++◌, ◌∷◌, [], length, take, drop, refl, sym, ◌∙◌, ap, subst, append_assoc, length-append, length-drop, length-take, take-append-drop}
+use Rattle.std.proofs.Common.{arith, false, ◌&&◌, ◌||◌, get_or, get_or-drop, get_or-take, ⊎_elim, ◌≡◌, ℕ, zero, suc, ◌+◌, ◌-◌, ◌<◌, ◌≤◌, ◌++◌, ◌∷◌, [], length, take, drop, refl, sym, ◌∙◌, ap, subst, append_assoc, length-append, length-drop, length-take, take-append-drop, ◌==◌}
 use Rattle.std.proofs.{lemmas.Bool.{cases_lt}, lemmas.Bool.Decides.{nat_tests}}
 use Rattle.std.proofs.lemmas.Grind.{common_steps, flat_map-append}
 use Rattle.std.proofs.{lemmas.List.{append-nil, drop-drop, take-take, take_at}, Math.Seq.{take-add}}
-use Rattle.std.specs.{Char.{char_set_contains}, List.{position_or_len}, Prelude.{◌==◌}}
+use Rattle.std.specs.{Char.{char_set_contains}, List.{position_or_len}}
 use Rattle.iref_grammar.specs.{Grammar.{slash}, Rules.{Text}}
 use Rattle.iref_parse.specs.Dots.{begins_with_dot, has_dot_segment, is_slash_dot}
 use Rattle.iref_parse.proofs.{DotSegmentLemmas.{dots_by_pairs}, PairLemmas.{no_pair}}

@@ -1,8 +1,8 @@
 -- The bytes of a text as sort keys hold them.
-use Rattle.std.proofs.Common.{arith, ◌≡◌, ℕ, ◌+◌, ◌++◌, ◌∷◌, [], length, refl, sym, ◌∙◌, ap, true, length-append}
+use Rattle.std.proofs.Common.{arith, ◌≡◌, ℕ, ◌+◌, ◌++◌, ◌∷◌, [], length, refl, sym, ◌∙◌, ap, true, length-append, map, option_map, Option, Some, None}
 use Rattle.std.proofs.{lemmas.Grind.{common_steps, flat_map-append}, lemmas.Bool.Decides.{nat_tests}}
 use Rattle.std.proofs.lemmas.List.{append-nil, map-append}
-use Rattle.std.specs.{List.{flat_map}, Char.{to_ascii_lowercase}, Prelude.{map, option_map, Option, Some, None}}
+use Rattle.std.specs.{List.{flat_map}, Char.{to_ascii_lowercase}}
 use Rattle.percent_encoding.specs.Percent.{percent_decode}
 use Rattle.percent_encoding.proofs.PercentLemmas.{percent_decode_not_percent, percent_decode-nil}
 use Rattle.iref_grammar.specs.{Authority.{AuthorityValue}, Rules.{Text}}

@@ -1,8 +1,8 @@
 -- A spelled text cut into its parts, as they are put into a sort key.
-use Rattle.std.proofs.Common.{arith, ◌≡◌, ℕ, zero, suc, ◌+◌, ◌<◌, ◌≤◌, ◌++◌, ◌∷◌, [], true, false, ◌&&◌, length, take, drop, refl, sym, ◌∙◌, ap, append_assoc, length-append, length-take, length-take-le, not, get_or, get_or-take, cond}
+use Rattle.std.proofs.Common.{arith, ◌≡◌, ℕ, zero, suc, ◌+◌, ◌<◌, ◌≤◌, ◌++◌, ◌∷◌, [], true, false, ◌&&◌, length, take, drop, refl, sym, ◌∙◌, ap, append_assoc, length-append, length-take, length-take-le, not, get_or, get_or-take, cond, Option, None, Some, ◌==◌}
 use Rattle.std.proofs.{lemmas.Bool.Decides.{nat_tests}, lemmas.Grind.{common_steps}, lemmas.Bool.{and_parts}}
 use Rattle.std.proofs.lemmas.List.Sums.{prefix_len-le-length}
-use Rattle.std.specs.{Char.{char_set_contains}, List.{position_or_len}, Prelude.{Option, None, Some, ◌==◌}}
+use Rattle.std.specs.{Char.{char_set_contains}, List.{position_or_len}}
 use Rattle.iref_grammar.specs.Authority.{after_bracketed, bracketed, read_authority, read_host, read_host_and_port}
 use Rattle.iref_grammar.specs.{Grammar.{at_sign, colon, slash}, PathValue.{PathValue, read_path, segments_of}}
 use Rattle.iref_grammar.specs.{Rules.{Text}, Texts.{after, before, lacks}}

@@ -1,8 +1,8 @@
 -- The items of a path in sort keys, the last first.
-use Rattle.std.proofs.Common.{arith, ◌≡◌, ℕ, ◌+◌, ◌++◌, ◌∷◌, [], List, length, refl, sym, ◌∙◌, ap, true, None, length-append}
+use Rattle.std.proofs.Common.{arith, ◌≡◌, ℕ, ◌+◌, ◌++◌, ◌∷◌, [], List, length, refl, sym, ◌∙◌, ap, true, None, length-append, map, Bool, false, cond, ◌==◌}
 use Rattle.std.proofs.{lemmas.List.{append-nil, map-append}, lemmas.Grind.{flat_map-append}}
 use Rattle.std.proofs.{lemmas.Bool.{and_from, and_parts}, lemmas.List.Folds.{list_all-append}}
-use Rattle.std.specs.{List.{flat_map, list_all, onto_first}, Prelude.{map, Bool, false, cond, ◌==◌}}
+use Rattle.std.specs.List.{flat_map, list_all, onto_first}
 use Rattle.percent_encoding.specs.Percent.{percent_decode}
 use Rattle.iref_grammar.specs.{Grammar.{slash}, Rules.{Text}, Texts.{pieces_at}}
 use Rattle.iref_grammar.specs.PathValue.{PathValue, is_one_empty, read_path, segments_of}

@@ -1,8 +1,8 @@
 -- Sort keys stand in the order of the keys, and are the same exactly where these are.
-use Rattle.std.proofs.Common.{arith, ◌≡◌, ◌↔◌, ℕ, Bool, true, false, List, [], ◌∷◌, ◌++◌, refl, sym, ◌∙◌, ap, Option, Some, None, Ordering, Less, Equal, Greater, is_eq, append_assoc}
+use Rattle.std.proofs.Common.{arith, ◌≡◌, ◌↔◌, ℕ, Bool, true, false, List, [], ◌∷◌, ◌++◌, refl, sym, ◌∙◌, ap, Option, Some, None, Ordering, Less, Equal, Greater, is_eq, append_assoc, if◌then◌else◌}
 use Rattle.std.proofs.{lemmas.Grind.{common_steps}, lemmas.Bool.Decides.{nat_tests}, lemmas.List.{append-nil}}
 use Rattle.std.specs.{Option.{option_cmp}, Ordering.{nat_cmp, bool_cmp, ordering_then, then_cmp, on}}
-use Rattle.std.specs.{Prelude.{if◌then◌else◌}, List.{flat_map}, Cmp.{tied_itself}, Cmp.Lexicographic.{slice_cmp}}
+use Rattle.std.specs.{List.{flat_map}, Cmp.{tied_itself}, Cmp.Lexicographic.{slice_cmp}}
 use Rattle.iref_grammar.specs.{Authority.{AuthorityValue}, Reference.{ReferenceValue}, Keys.{text_order}, Rules.{Text}}
 use Rattle.iref_model.specs.{AuthorityKey.{authority_key_cmp}, PathKey.{path_key_cmp}, Key.{key_cmp}}
 use Rattle.iref_model.proofs.KeyOrderLemmas.{keys_separate, texts_total}

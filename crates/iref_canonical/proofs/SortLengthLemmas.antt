@@ -1,7 +1,7 @@
 -- How long sort keys are.
-use Rattle.std.proofs.Common.{arith, ◌≡◌, ℕ, ◌+◌, ◌*◌, ◌≤◌, List, [], ◌∷◌, ◌++◌, Option, Some, None, length, ap, length-append}
+use Rattle.std.proofs.Common.{arith, ◌≡◌, ℕ, ◌+◌, ◌*◌, ◌≤◌, List, [], ◌∷◌, ◌++◌, Option, Some, None, length, ap, length-append, map, option_map, codes, if◌then◌else◌}
 use Rattle.std.proofs.lemmas.Bool.Decides.{nat_tests}
-use Rattle.std.specs.{List.{flat_map, join_with_byte}, Prelude.{map, option_map, codes, if◌then◌else◌}}
+use Rattle.std.specs.List.{flat_map, join_with_byte}
 use Rattle.percent_encoding.specs.Percent.{percent_decode}
 use Rattle.percent_encoding.proofs.PercentLemmas.{length-percent_decode}
 use Rattle.iref_grammar.specs.Authority.{AuthorityValue, spell_authority}

@@ -1,8 +1,7 @@
 -- What is below a reference is one range of sort keys, and begins with one text.
-use Rattle.std.proofs.Common.{arith, ◌≡◌, ℕ, ◌≤◌, Bool, true, false, ◌&&◌, List, [], ◌∷◌, ◌++◌, refl, sym, ◌∙◌, ap, Some, None, Ordering, Less, Equal, Greater, is_eq, append_assoc, length, take, lit≤, ◌+◌}
+use Rattle.std.proofs.Common.{arith, ◌≡◌, ℕ, ◌≤◌, Bool, true, false, ◌&&◌, List, [], ◌∷◌, ◌++◌, refl, sym, ◌∙◌, ap, Some, None, Ordering, Less, Equal, Greater, is_eq, append_assoc, length, take, lit≤, ◌+◌, if◌then◌else◌, is_some, map, option_map, cond, not, ◌==◌}
 use Rattle.std.proofs.{lemmas.Grind.{common_steps}, lemmas.Bool.Decides.{nat_tests}, lemmas.Map.Text.{is_eq-slice_cmp}}
 use Rattle.std.specs.{Option.{option_cmp}, Ordering.{is_le, is_lt, on, ordering_reverse, ordering_then, then_cmp}}
-use Rattle.std.specs.Prelude.{if◌then◌else◌, is_some, map, option_map, cond, not, ◌==◌}
 use Rattle.std.specs.{BTreeMap.Range.{IsLeBy, range_contains}, List.{flat_map, starts_with}}
 use Rattle.std.specs.declared.ops.Bound.TheVariants.{Excluded, Included}
 use Rattle.std.specs.{Cmp.{IsTotalOrder, both_ways, on_total, then_total}, Cmp.Lexicographic.{options_total, pointwise}}

@@ -1,8 +1,7 @@
 -- Sort keys put from the front.
-use Rattle.std.proofs.Common.{arith, ◌≡◌, ℕ, ◌+◌, ◌<◌, ◌++◌, ◌∷◌, [], List, Bool, true, false, length, take, drop, refl, sym, ◌∙◌, ap, subst, cond, ◌&&◌, append_assoc, length-append, length-take, take_all}
+use Rattle.std.proofs.Common.{arith, ◌≡◌, ℕ, ◌+◌, ◌<◌, ◌++◌, ◌∷◌, [], List, Bool, true, false, length, take, drop, refl, sym, ◌∙◌, ap, subst, cond, ◌&&◌, append_assoc, length-append, length-take, take_all, map, option_map, Option, Some, ◌==◌}
 use Rattle.std.proofs.{lemmas.Bool.{and_parts}, lemmas.List.{append-nil, drop_all, length-map, map-append}}
-use Rattle.std.specs.{List.{flat_map, list_all, onto_first}, Char.{to_ascii_lowercase}}
-use Rattle.std.specs.{Prelude.{map, option_map, Option, Some, ◌==◌}, Option.{option_copied}}
+use Rattle.std.specs.{List.{flat_map, list_all, onto_first}, Char.{to_ascii_lowercase}, Option.{option_copied}}
 use Rattle.std.specs.Str.{str_to_ascii_lowercase}
 use Rattle.iref_grammar.specs.{Authority.{AuthorityValue, read_authority}, Grammar.{slash}}
 use Rattle.iref_grammar.specs.{PathValue.{PathValue, read_path, segments_of}, Rules.{Text}, Tests.{none_or}}

@@ -1,9 +1,8 @@
 -- Sort keys of short texts whose bytes stand in them as they are: what they are, and that there is room.
-use Rattle.std.proofs.Common.{arith, ◌≡◌, ℕ, ◌+◌, ◌*◌, ◌≤◌, ◌++◌, ◌∷◌, [], Bool, true, false, length, refl, sym, ◌∙◌, ap, append_assoc, cond, length-append}
+use Rattle.std.proofs.Common.{arith, ◌≡◌, ℕ, ◌+◌, ◌*◌, ◌≤◌, ◌++◌, ◌∷◌, [], Bool, true, false, length, refl, sym, ◌∙◌, ap, append_assoc, cond, length-append, IfSome, codes, option_map, Option, None, Some, ◌&&◌, ◌==◌}
 use Rattle.std.proofs.{lemmas.Bool.{and_parts}, lemmas.List.Splits.{length-slice_split}}
 use Rattle.std.proofs.{lemmas.List.Sums.{count_by-le-length}, lemmas.List.{take_at}}
-use Rattle.std.specs.{List.{flat_map}, Option.{option_copied}}
-use Rattle.std.specs.{Prelude.{IfSome, codes, option_map, Option, None, Some, ◌&&◌, ◌==◌}, Str.{str_to_ascii_lowercase}}
+use Rattle.std.specs.{List.{flat_map}, Option.{option_copied}, Str.{str_to_ascii_lowercase}}
 use Rattle.percent_encoding.specs.Percent.{percent_decode}
 use Rattle.iref_grammar.specs.Authority.{AuthorityValue, read_authority, spell_authority}
 use Rattle.iref_grammar.specs.ComponentTexts.{ComponentTexts, spell_components}

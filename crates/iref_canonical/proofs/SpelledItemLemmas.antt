@@ -1,8 +1,8 @@
 -- The items of a canonical path as they are written from the back.
-use Rattle.std.proofs.Common.{◌≡◌, ℕ, zero, suc, ◌+◌, ◌-◌, ◌≤◌, Bool, true, false, not, cond, ◌&&◌, List, [], ◌∷◌, ◌++◌, map, length, refl, sym, ◌∙◌, ap, subst, arith}
+use Rattle.std.proofs.Common.{◌≡◌, ℕ, zero, suc, ◌+◌, ◌-◌, ◌≤◌, Bool, true, false, not, cond, ◌&&◌, List, [], ◌∷◌, ◌++◌, map, length, refl, sym, ◌∙◌, ap, subst, arith, codes, nat_lt}
 use Rattle.std.proofs.{lemmas.Grind.{common_steps}, lemmas.List.{length-map}, lemmas.Bool.{and_parts}}
 use Rattle.std.proofs.lemmas.Bool.Decides.{nat_tests}
-use Rattle.std.specs.{Prelude.{codes, nat_lt}, List.{join_with_byte}, Cmp.Lexicographic.{bytes_decides}}
+use Rattle.std.specs.{List.{join_with_byte}, Cmp.Lexicographic.{bytes_decides}}
 use Rattle.percent_encoding.specs.Percent.{percent_decode}
 use Rattle.iref_grammar.specs.{Grammar.{slash}, Rules.{Text}, Texts.{is_empty}}
 use Rattle.iref_model.specs.NormalList.{is_dot_dot}

@@ -1,8 +1,8 @@
 -- A part of an authority replaced in its text.
-use Rattle.std.proofs.Common.{◌≡◌, ◌+◌, true, [], ◌∷◌, ◌++◌, length, sym, ◌∙◌, length-append, append_assoc, arith, rules, subst, lit<}
+use Rattle.std.proofs.Common.{◌≡◌, ◌+◌, true, [], ◌∷◌, ◌++◌, length, sym, ◌∙◌, length-append, append_assoc, arith, rules, subst, lit<, Option, None}
 use Rattle.std.proofs.{lemmas.Grind.{common_steps}, lemmas.List.{places, same_lists}}
 use Rattle.std.proofs.lemmas.Str.{IsCharBoundary-start, IsCharBoundary-end, IsCharBoundary-at_seam}
-use Rattle.std.specs.{Prelude.{Option, None}, List.{splice}, Str.{IsCharBoundary, IsUtf8}}
+use Rattle.std.specs.{List.{splice}, Str.{IsCharBoundary, IsUtf8}}
 use Rattle.iref_splice.specs.Changes.{IsWithin, with_mark}
 use Rattle.iref_grammar.specs.{Characters.{CharTests, AreAboveAscii}, Rules.{Text}, Grammar.{at_sign, colon}}
 use Rattle.iref_grammar.specs.{Texts.{part_then, then_part}, Tests.{is_user_info, is_host, is_port, none_or}}

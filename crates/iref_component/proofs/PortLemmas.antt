@@ -1,7 +1,7 @@
 -- Ports as numbers of a type.
-use Rattle.std.proofs.{Common.{◌≡◌, ℕ, ◌<◌, ◌^◌, length, true, arith}, lemmas.Str.Parse.{parse_digits}}
+use Rattle.std.proofs.{Common.{◌≡◌, ℕ, ◌<◌, ◌^◌, length, true, arith, Result, Ok, MatchResult, IsErrAnd}, lemmas.Str.Parse.{parse_digits}}
 use Rattle.std.proofs.lemmas.Bool.Decides.{nat_tests}
-use Rattle.std.specs.{Prelude.{Result, Ok, MatchResult, IsErrAnd}, Str.Parse.{ParsesUnsigned}}
+use Rattle.std.specs.Str.Parse.{ParsesUnsigned}
 use Rattle.iref_grammar.specs.{Rules.{Text}, Tests.{is_port}}
 use Rattle.iref_component.specs.Ports.{port_number}
 use Rattle.iref_fault.specs.{declared.port.PortError.{PortError}, declared.port.PortError.TheVariants.{OutOfRange}}

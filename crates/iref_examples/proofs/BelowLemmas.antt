@@ -1,8 +1,7 @@
 -- What stands in a range of an index, and what is added to the index.
-use Rattle.std.proofs.Common.{◌≡◌, Bool, true, false, cond, List, [], ◌∷◌, refl, sym, ◌∙◌, ap, map}
+use Rattle.std.proofs.Common.{◌≡◌, Bool, true, false, cond, List, [], ◌∷◌, refl, sym, ◌∙◌, ap, map, Some, is_some}
 use Rattle.std.proofs.lemmas.Map.Lookups.{exact_bytes}
-use Rattle.std.specs.{Prelude.{Some, is_some}, declared.cmp.Ordering.{Ordering}}
-use Rattle.std.specs.declared.cmp.Ordering.TheVariants.{Less, Equal, Greater}
+use Rattle.std.specs.{declared.cmp.Ordering.{Ordering}, declared.cmp.Ordering.TheVariants.{Less, Equal, Greater}}
 use Rattle.std.specs.declared.ops.Bound.TheVariants.{Excluded, Included}
 use Rattle.std.specs.{BTreeMap.{BTreeMap, get, insert_entry, Updates}, BTreeMap.Range.{entries_between, range_contains}}
 use Rattle.std.specs.{List.{AllByRecursion}, Map.{values_of}, Ordering.{is_eq, match_ordering}}

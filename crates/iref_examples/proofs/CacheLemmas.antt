@@ -1,7 +1,6 @@
 -- What a map over canonical texts has, once a value is put.
-use Rattle.std.proofs.{Common.{cond, refl, sym, ◌∙◌, ap, subst, inl, inr}, lemmas.Bool.{cases_Bool, cond-false}}
+use Rattle.std.proofs.{Common.{cond, refl, sym, ◌∙◌, ap, subst, inl, inr, ◌≡◌, List, [], ◌∷◌, map, IsSome, Some, String, string_bytes}, lemmas.Bool.{cases_Bool, cond-false}}
 use Rattle.std.proofs.{lemmas.Slice.Eq.{bytes_eq-Decides}, lemmas.Map.Text.{hash_map_updates_text}}
-use Rattle.std.specs.Prelude.{◌≡◌, List, [], ◌∷◌, map, IsSome, Some, String, string_bytes}
 use Rattle.std.specs.{HashMap.{HashMap, Updates, get_by_text}, Map.{lookup}, Str.{bytes_eq}, String.{string_eq}}
 use Rattle.iref.specs.{Canonical.{canonical_text}, CanonicalTexts.{IsCanonicalTextOf}}
 use Rattle.iref.specs.{Characters.{uri_above_ascii, uri_chars}, Key.{key}, Reference.{ReferenceValue, read_reference}}

@@ -1,7 +1,6 @@
 -- A text with a component outside its rule is no reference.
-use Rattle.std.proofs.Common.{◌≡◌, subst, sym}
-use Rattle.std.specs.{Prelude.{Option, Some, None, Result, Ok, Err, IfSome, IsSomeAnd, MatchResult}, Borrow.{Bor}}
-use Rattle.std.specs.Option.{option_copied}
+use Rattle.std.proofs.Common.{◌≡◌, subst, sym, Option, Some, None, Result, Ok, Err, IfSome, IsSomeAnd, MatchResult}
+use Rattle.std.specs.{Borrow.{Bor}, Option.{option_copied}}
 use Rattle.iref.specs.{Characters.{iri_above_ascii, iri_chars}, ComponentRules.{AreInRules}}
 use Rattle.iref.specs.ComponentTexts.{ComponentTexts, read_components, spell_components}
 use Rattle.iref.specs.Grammar.{IsAuthority, IsFragment, IsPath, IsQuery, IsScheme, IsUriReference}

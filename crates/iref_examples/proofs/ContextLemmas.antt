@@ -1,8 +1,7 @@
 -- Texts of a JSON-LD document.
-use Rattle.std.proofs.Common.{arith, ◌≡◌, false}
+use Rattle.std.proofs.Common.{arith, ◌≡◌, false, Some, None}
 use Rattle.iref.specs.{Reference.{is_reference}, Characters.{iri_chars, iri_above_ascii}}
 use Rattle.iref.specs.{Grammar.{IsUri, IsUriReference}, Rules.{Text, InUtf8}}
-use Rattle.std.specs.Prelude.{Some, None}
 use Rattle.iref.proofs.ReferenceRuleLemmas.{Decides-is_uri, Decides-is_uri_reference}
 use Rattle.iref_examples.specs.ContextTexts.{itself}
 

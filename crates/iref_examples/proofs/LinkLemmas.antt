@@ -1,6 +1,5 @@
 -- Links rewritten relative to their page.
-use Rattle.std.proofs.Common.{◌≡◌, true, subst}
-use Rattle.std.specs.Prelude.{IfOk, Result, Ok, Err, is_some}
+use Rattle.std.proofs.Common.{◌≡◌, true, subst, IfOk, Result, Ok, Err, is_some}
 use Rattle.iref.specs.{Key.{AreAlike}, Reference.{ReferenceValue}}
 use Rattle.iref.specs.{Relatives.{ClimbsNoMore, LeadsToTarget, WritesPathAlone}, Resolution.{resolved}}
 use Rattle.iref_examples.specs.Links.{IsRelinked}

@@ -1,7 +1,7 @@
 -- The lines that are wrong, told one after the other.
-use Rattle.std.proofs.Common.{◌≡◌, ℕ, ◌+◌, List, [], ◌∷◌, ◌++◌, refl, sym, ◌∙◌, ap, subst, map, append_assoc}
+use Rattle.std.proofs.Common.{◌≡◌, ℕ, ◌+◌, List, [], ◌∷◌, ◌++◌, refl, sym, ◌∙◌, ap, subst, map, append_assoc, Some, None, option_map}
 use Rattle.std.proofs.{lemmas.List.{append-nil, map-append}, lemmas.Iterator.Splits.{YieldsList-from_lines}}
-use Rattle.std.specs.{Prelude.{Some, None, option_map}, Borrow.{Bor}, Iterator.{AlwaysYields}, Option.{option_to_list}}
+use Rattle.std.specs.{Borrow.{Bor}, Iterator.{AlwaysYields}, Option.{option_to_list}}
 use Rattle.std.specs.{Str.Iter.{lines_rest, lines_steps}, Str.Lines.{lines}, declared.str.Lines.{Lines}}
 use Rattle.iref.specs.{BytePlaces.{fault_value}, Characters.{iri_chars}, Faults.{FaultValue, fault_of_reference}}
 use Rattle.iref.specs.Rules.{Text}

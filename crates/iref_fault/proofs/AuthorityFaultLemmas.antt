@@ -1,7 +1,6 @@
 -- A text is an authority exactly if the pieces of it are in their rules.
-use Rattle.std.proofs.Common.{arith, ◌≡◌, ℕ, ◌+◌, true, false, List, [], ◌∷◌, ◌++◌, ◌⊎◌, inl, inr, refl, sym, ◌∙◌, ap, subst, length, append_assoc}
+use Rattle.std.proofs.Common.{arith, ◌≡◌, ℕ, ◌+◌, true, false, List, [], ◌∷◌, ◌++◌, ◌⊎◌, inl, inr, refl, sym, ◌∙◌, ap, subst, length, append_assoc, ◌==◌, ◌||◌, Option, Some, None, IfSome, is_some, if◌then◌else◌}
 use Rattle.std.proofs.{Math.Logic.{◌↔◌}, lemmas.Grind.{common_steps}, Math.Bool.{or-true}}
-use Rattle.std.specs.Prelude.{◌==◌, ◌||◌, Option, Some, None, IfSome, is_some, if◌then◌else◌}
 use Rattle.std.specs.{Char.{char_set_contains, is_ascii_digit}, List.{AllByRecursion}}
 use Rattle.iref_grammar.specs.{Characters.{CharTests, AreAboveAscii}, Rules.{Text, InUtf8}}
 use Rattle.iref_grammar.specs.Grammar.{colon, at_sign, left_bracket, right_bracket, IsUserInfo, IsHost, IsPort, IsAuthority}

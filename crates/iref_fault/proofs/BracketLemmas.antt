@@ -1,9 +1,7 @@
 -- The port behind the last `]`, and the host before it.
-use Rattle.std.proofs.Common.{◌≡◌, ◌≢◌, ℕ, ◌<◌, Bool, true, false, [], ◌∷◌, length, refl, sym, ap, ◌∙◌, arith}
+use Rattle.std.proofs.Common.{◌≡◌, ◌≢◌, ℕ, ◌<◌, Bool, true, false, [], ◌∷◌, length, refl, sym, ap, ◌∙◌, arith, ◌==◌, ◌||◌, IfSome, Option, Some, None, if◌then◌else◌, true≢false}
 use Rattle.std.proofs.{lemmas.Bool.Decides.{nat_tests}, lemmas.Option.{same_Some}}
-use Rattle.std.specs.{Prelude.{◌==◌, ◌||◌, IfSome, Option, Some, None, if◌then◌else◌}, Borrow.{Bor}}
-use Rattle.std.specs.{Option.{option_copied}, Char.{char_set_contains}}
-use mathlib.Core.Bool.{true≢false}
+use Rattle.std.specs.{Borrow.{Bor}, Option.{option_copied}, Char.{char_set_contains}}
 use Rattle.iref_grammar.specs.{Rules.{Text}, Grammar.{colon, right_bracket}, Texts.{after, after_first_char}}
 use Rattle.iref_grammar.proofs.CutLemmas.{from_first-no, from_first-yes}
 use Rattle.iref_fault.specs.{Cut.{bracket_port}, CutSteps.{after_last}}

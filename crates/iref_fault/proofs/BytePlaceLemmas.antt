@@ -1,8 +1,7 @@
 -- Places in bytes: steps of the scans.
-use Rattle.std.proofs.Common.{◌≡◌, ◌≢◌, ℕ, suc, ◌+◌, ◌-◌, ◌≤◌, Bool, false, [], ◌∷◌, length, take, refl, sym, ap, ◌∙◌, arith, chars, IsUtf8, length-append}
+use Rattle.std.proofs.Common.{◌≡◌, ◌≢◌, ℕ, suc, ◌+◌, ◌-◌, ◌≤◌, Bool, false, [], ◌∷◌, length, take, refl, sym, ap, ◌∙◌, arith, chars, IsUtf8, length-append, Option, Some, None, option_map, encode_utf8, encode_utf8_all, ◌==◌, if◌then◌else◌}
 use Rattle.std.proofs.{lemmas.Str.{encodes-chars, chars-nil}, lemmas.Bool.Decides.{nat_tests}}
 use Rattle.std.proofs.lemmas.List.{nil_from_length}
-use Rattle.std.specs.Prelude.{Option, Some, None, option_map, encode_utf8, encode_utf8_all, ◌==◌, if◌then◌else◌}
 use Rattle.iref_grammar.specs.{Rules.{Text}, Tests.{owed_after}}
 use Rattle.iref_fault.specs.{Places.{bytes_before, encoded_place_after}, BytePlaces.{located}}
 

@@ -1,10 +1,8 @@
 -- The pieces of a text are slices of it, and have the shape of their rules.
-use Rattle.std.proofs.Common.{arith, ◌≡◌, ℕ, ◌+◌, ◌<◌, Bool, true, false, List, [], ◌∷◌, ◌++◌, ◌⊎◌, inl, inr, refl, sym, ◌∙◌, ap, subst, length, drop, append_assoc, length-append, lit<}
+use Rattle.std.proofs.Common.{arith, ◌≡◌, ℕ, ◌+◌, ◌<◌, Bool, true, false, List, [], ◌∷◌, ◌++◌, ◌⊎◌, inl, inr, refl, sym, ◌∙◌, ap, subst, length, drop, append_assoc, length-append, lit<, ◌==◌, ◌&&◌, ◌||◌, codes, Option, Some, None, IfSome, is_some, chars, if◌then◌else◌, true≢false}
 use Rattle.std.proofs.{lemmas.Grind.{common_steps}, lemmas.Bool.Decides.{eqb_tells}, lemmas.List.{append-nil}}
 use Rattle.std.proofs.lemmas.Str.{chars-nil, encode_ascii, encodes-chars, chars-append, chars_past_char}
-use Rattle.std.specs.Prelude.{◌==◌, ◌&&◌, ◌||◌, codes, Option, Some, None, IfSome, is_some, chars, if◌then◌else◌}
 use Rattle.std.specs.{Str.{IsUtf8}, Char.{char_set_contains}, List.{AllByRecursion}}
-use mathlib.Core.Bool.{true≢false}
 use Rattle.iref_grammar.specs.{Characters.{CharTests, AreAboveAscii}, Rules.{Text}}
 use Rattle.iref_grammar.specs.Grammar.{hash_sign, slash, colon, question_mark, at_sign, left_bracket, right_bracket}
 use Rattle.iref_grammar.specs.Texts.{before, after, from_first, begins_with, lacks, part_then, then_part}

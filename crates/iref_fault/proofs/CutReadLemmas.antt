@@ -1,7 +1,6 @@
 -- On a text of the grammar the cut gives the components that are read from it.
-use Rattle.std.proofs.Common.{◌≡◌, ℕ, ◌+◌, Bool, true, false, List, [], ◌∷◌, ◌++◌, refl, sym, ◌∙◌, ap, length}
+use Rattle.std.proofs.Common.{◌≡◌, ℕ, ◌+◌, Bool, true, false, List, [], ◌∷◌, ◌++◌, refl, sym, ◌∙◌, ap, length, map, ◌||◌, Option, Some, None, is_some, option_map, if◌then◌else◌}
 use Rattle.std.proofs.lemmas.List.{map-append}
-use Rattle.std.specs.Prelude.{map, ◌||◌, Option, Some, None, is_some, option_map, if◌then◌else◌}
 use Rattle.iref_grammar.specs.{Characters.{CharTests, AreAboveAscii}, Rules.{Text}, Grammar.{colon, at_sign}}
 use Rattle.iref_grammar.specs.{Texts.{before, after, begins_with}, Tests.{none_or}}
 use Rattle.iref_grammar.specs.Authority.{AuthorityValue, read_host, after_bracketed, read_host_and_port, read_authority, has_authority_parts, is_authority}

@@ -1,8 +1,7 @@
 -- Slices of a text: a cut at an ASCII delimiter gives slices that are UTF-8.
-use Rattle.std.proofs.Common.{arith, ◌≡◌, ℕ, zero, suc, true, ◌+◌, ◌<◌, [], ◌∷◌, ◌++◌, refl, sym, ◌∙◌, ap, subst, length, take, drop, append_assoc, length-append}
+use Rattle.std.proofs.Common.{arith, ◌≡◌, ℕ, zero, suc, true, ◌+◌, ◌<◌, [], ◌∷◌, ◌++◌, refl, sym, ◌∙◌, ap, subst, length, take, drop, append_assoc, length-append, Option, Some, None, IfSome, chars, encode_utf8_all}
 use Rattle.std.proofs.{Math.Seq.{take-append_seam, drop-append_seam}, lemmas.List.{take-append-drop, append-nil}}
 use Rattle.std.proofs.lemmas.Str.{IsUtf8-nil, IsUtf8-take, IsUtf8-drop, IsUtf8-append, IsCharBoundary-after_ascii, IsCharBoundary-at_seam, encodes-chars, encodes-append, scalars-chars}
-use Rattle.std.specs.Prelude.{Option, Some, None, IfSome, chars, encode_utf8_all}
 use Rattle.std.specs.Str.{IsUtf8, IsCharBoundary, all_scalars}
 use Rattle.iref_grammar.specs.{Rules.{Text}, Texts.{then_part}}
 use Rattle.iref_grammar.proofs.SliceLemmas.{mark_boundary}

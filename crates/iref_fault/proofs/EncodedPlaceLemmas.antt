@@ -1,9 +1,7 @@
 -- Characters and escapes: the place where a text is outside the rule is where the scan of it stops.
-use Rattle.std.proofs.Common.{arith, ◌≡◌, ℕ, zero, suc, Bool, true, false, [], ◌∷◌, ◌++◌, ◌⊎◌, inl, inr, refl, sym, ◌∙◌, ap, subst, length, take}
+use Rattle.std.proofs.Common.{arith, ◌≡◌, ℕ, zero, suc, Bool, true, false, [], ◌∷◌, ◌++◌, ◌⊎◌, inl, inr, refl, sym, ◌∙◌, ap, subst, length, take, ◌==◌, Option, Some, None, option_map, replicate, ◌&&◌, if◌then◌else◌, true≢false}
 use Rattle.std.proofs.lemmas.Bool.{and_from}
-use Rattle.std.specs.{Prelude.{◌==◌, Option, Some, None, option_map, replicate, ◌&&◌, if◌then◌else◌}, Bool.{Decides}}
-use Rattle.std.specs.List.{list_all}
-use mathlib.Core.Bool.{true≢false}
+use Rattle.std.specs.{Bool.{Decides}, List.{list_all}}
 use Rattle.iref_grammar.specs.{Rules.{Text, Rule}, Grammar.{colon}, Tests.{owed_after, is_encoded_after}}
 use Rattle.iref_grammar.proofs.{TextLemmas.{lacks}, LackLemmas.{lacks_more}, EncodedLemmas.{by_digit}}
 use Rattle.iref_fault.proofs.OnesPlaceLemmas.{ones-first}

@@ -1,11 +1,10 @@
 -- The computed fault of a whole text: there is none exactly in the grammar, and it is that of the first piece outside its rule.
-use Rattle.std.proofs.Common.{arith, ◌≡◌, ℕ, zero, suc, ◌+◌, ◌<◌, ◌≤◌, ⊎_elim, Bool, true, false, List, [], ◌∷◌, ◌++◌, refl, sym, ◌∙◌, ap, subst, length, take, drop, ◌-◌, length-append, length-drop}
+use Rattle.std.proofs.Common.{arith, ◌≡◌, ℕ, zero, suc, ◌+◌, ◌<◌, ◌≤◌, ⊎_elim, Bool, true, false, List, [], ◌∷◌, ◌++◌, refl, sym, ◌∙◌, ap, subst, length, take, drop, ◌-◌, length-append, length-drop, chars, Some, None, if◌then◌else◌, encode_utf8_all, true≢false}
 use Rattle.std.proofs.{Math.Logic.{◌↔◌}, Math.Seq.{take-append_seam, drop-append_seam}, lemmas.Bool.{cases_lt}}
 use Rattle.std.proofs.{lemmas.List.{take_all}, lemmas.Option.{same_Some}}
 use Rattle.std.proofs.lemmas.Str.{IsUtf8-nil, IsUtf8-from_is_utf8, is_utf8-from_IsUtf8, IsUtf8-take, IsUtf8-drop, utf8_valid_len_le, encodes-chars, length-encode, len_utf8_bounds}
-use Rattle.std.specs.{Prelude.{chars, Some, None, if◌then◌else◌, encode_utf8_all}, Str.{IsUtf8, IsValidUpTo, is_utf8}}
+use Rattle.std.specs.Str.{IsUtf8, IsValidUpTo, is_utf8}
 use Rattle.std.specs.{Str.Lossy.{utf8_valid_len, valid_len_up_to}, List.{AllByRecursion}, Char.{encode_utf8}}
-use mathlib.Core.Bool.{true≢false}
 use Rattle.iref_grammar.specs.Characters.{CharTests, AreAboveAscii, uri_chars, uri_above_ascii}
 use Rattle.iref_grammar.specs.{Rules.{Text, Rule, InUtf8}, Grammar.{IsAuthority, IsUri, IsUriReference}}
 use Rattle.iref_fault.specs.Places.{PartRule, Scheme, UserInfo, Host, Port, Path, BarePath, Segment, Query, Fragment, rule_of, is_bare, IsPlaceIn, bytes_before}

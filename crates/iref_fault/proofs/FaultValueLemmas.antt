@@ -1,8 +1,7 @@
 -- The fault of a text, from the first place in bytes.
-use Rattle.std.proofs.Common.{◌≡◌, ℕ, ◌+◌, true, false, List, [], ◌∷◌, refl, sym, ap, subst, ◌∙◌, arith, chars, IsUtf8}
+use Rattle.std.proofs.Common.{◌≡◌, ℕ, ◌+◌, true, false, List, [], ◌∷◌, refl, sym, ap, subst, ◌∙◌, arith, chars, IsUtf8, Option, Some, None, option_map, IfSome, if◌then◌else◌}
 use Rattle.std.proofs.lemmas.Str.{is_utf8-from_IsUtf8}
-use Rattle.std.specs.{Prelude.{Option, Some, None, option_map, IfSome, if◌then◌else◌}, Option.{option_or}}
-use Rattle.std.specs.{Str.{IsCharBoundary, is_utf8}, List.{AllByRecursion}}
+use Rattle.std.specs.{Option.{option_or}, Str.{IsCharBoundary, is_utf8}, List.{AllByRecursion}}
 use Rattle.iref_grammar.specs.{Characters.{CharTests, AreAboveAscii}, Rules.{Text}}
 use Rattle.iref_fault.specs.{declared.pieces.Place.{Place}, Places.{PartRule, component_of, place_in, bytes_before}}
 use Rattle.iref_fault.specs.Cut.{Piece, piece, authority_pieces, pieces_of, has_cut_scheme}

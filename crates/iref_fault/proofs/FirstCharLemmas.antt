@@ -1,8 +1,7 @@
 -- The first character of a text and its first byte, where either is ASCII, and IP literals, which are.
-use Rattle.std.proofs.Common.{◌≡◌, ◌≢◌, ℕ, ◌<◌, Bool, true, false, [], ◌∷◌, length, refl, sym, ap, ◌∙◌, arith, chars, IsUtf8, get_or, ◌⊎◌, inl, inr, subst, lit<, length-append}
+use Rattle.std.proofs.Common.{◌≡◌, ◌≢◌, ℕ, ◌<◌, Bool, true, false, [], ◌∷◌, length, refl, sym, ap, ◌∙◌, arith, chars, IsUtf8, get_or, ◌⊎◌, inl, inr, subst, lit<, length-append, ◌==◌, encode_utf8, encode_utf8_all, Some, None, if◌then◌else◌}
 use Rattle.std.proofs.lemmas.Bool.Decides.{nat_tests, eqb_tells, same_from_decides, Decides-like}
 use Rattle.std.proofs.lemmas.Str.{encodes-chars, scalars-chars, chars_from_encodes, char_from_byte, byte_from_char, length-encode, len_utf8_bounds}
-use Rattle.std.specs.Prelude.{◌==◌, encode_utf8, encode_utf8_all, Some, None, if◌then◌else◌}
 use Rattle.iref_grammar.specs.{Characters.{CharTests}, Rules.{Text}}
 use Rattle.iref_grammar.specs.{Grammar.{IsIpLiteral, left_bracket, colon, is_reg_name_char}, Texts.{begins_with}}
 use Rattle.iref_grammar.specs.Tests.{is_ip_literal}

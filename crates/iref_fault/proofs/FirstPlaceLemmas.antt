@@ -1,6 +1,6 @@
 -- Places of pieces in bytes: of one piece, of two lists of pieces, and how far a place is.
-use Rattle.std.proofs.Common.{◌≡◌, ℕ, ◌+◌, ◌<◌, Bool, true, false, List, [], ◌∷◌, ◌++◌, length, refl, ap, ◌∙◌, arith, chars, IsUtf8}
-use Rattle.std.specs.{Prelude.{Option, Some, None, IfSome}, Option.{option_or}}
+use Rattle.std.proofs.Common.{◌≡◌, ℕ, ◌+◌, ◌<◌, Bool, true, false, List, [], ◌∷◌, ◌++◌, length, refl, ap, ◌∙◌, arith, chars, IsUtf8, Option, Some, None, IfSome}
+use Rattle.std.specs.Option.{option_or}
 use Rattle.iref_grammar.specs.{Characters.{CharTests}, Rules.{Text}}
 use Rattle.iref_fault.specs.{Places.{PartRule, component_of, place_in}, declared.component.Component.TheVariants.{Path}}
 use Rattle.iref_fault.specs.{Cut.{Piece, piece}, CutSteps.{path_rule}}

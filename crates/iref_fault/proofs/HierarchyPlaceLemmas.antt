@@ -1,6 +1,6 @@
 -- The first place in a reference, from those in its parts.
-use Rattle.std.proofs.Common.{◌≡◌, ℕ, ◌+◌, ◌-◌, ◌≤◌, Bool, [], ◌∷◌, ◌++◌, length, sym, ap, ◌∙◌, arith, append_assoc, length-append}
-use Rattle.std.specs.{Prelude.{◌||◌, codes, Option, is_some}, Option.{option_or}}
+use Rattle.std.proofs.Common.{◌≡◌, ℕ, ◌+◌, ◌-◌, ◌≤◌, Bool, [], ◌∷◌, ◌++◌, length, sym, ap, ◌∙◌, arith, append_assoc, length-append, ◌||◌, codes, Option, is_some}
+use Rattle.std.specs.Option.{option_or}
 use Rattle.iref_grammar.specs.{Characters.{CharTests}, Rules.{Text}, Grammar.{colon, hash_sign, question_mark}}
 use Rattle.iref_grammar.specs.{Texts.{before, after, part_then, then_part}, Reference.{split_authority, hierarchy}}
 use Rattle.iref_grammar.proofs.ReferenceCutLemmas.{split_authority-joins}

@@ -1,7 +1,7 @@
 -- The host of an authority without user info, before its port.
-use Rattle.std.proofs.Common.{◌≡◌, ℕ, ◌+◌, ◌-◌, ◌≤◌, [], ◌∷◌, ◌++◌, length, take, sym, ap, ◌∙◌, subst, arith, lit<, length-append}
+use Rattle.std.proofs.Common.{◌≡◌, ℕ, ◌+◌, ◌-◌, ◌≤◌, [], ◌∷◌, ◌++◌, length, take, sym, ap, ◌∙◌, subst, arith, lit<, length-append, Option, Some, None}
 use Rattle.std.proofs.{Math.Seq.{take-append_seam}, lemmas.List.{append-nil}}
-use Rattle.std.specs.{Prelude.{Option, Some, None}, Str.{IsCharBoundary}}
+use Rattle.std.specs.Str.{IsCharBoundary}
 use Rattle.iref_grammar.specs.{Rules.{Text}, Grammar.{colon}, Texts.{before, after, then_part}}
 use Rattle.iref_grammar.proofs.{CutLemmas.{cut}, SliceLemmas.{mark_boundary}}
 use Rattle.iref_fault.specs.Cut.{cut_host, cut_port}

@@ -1,11 +1,9 @@
 -- Places in bytes where each character is one byte, up to the place.
-use Rattle.std.proofs.Common.{◌≡◌, ℕ, suc, ◌<◌, ◌≤◌, Bool, true, false, not, [], ◌∷◌, ◌++◌, length, refl, sym, ap, ◌∙◌, arith, chars, IsUtf8, get_or, slice_index, drop, length-append, ⊎_elim, zero-add}
+use Rattle.std.proofs.Common.{◌≡◌, ℕ, suc, ◌<◌, ◌≤◌, Bool, true, false, not, [], ◌∷◌, ◌++◌, length, refl, sym, ap, ◌∙◌, arith, chars, IsUtf8, get_or, slice_index, drop, length-append, ⊎_elim, zero-add, Option, Some, None, option_map, encode_utf8, encode_utf8_all, if◌then◌else◌, true≢false}
 use Rattle.std.proofs.{lemmas.Bool.{cases_lt}, lemmas.Bool.Decides.{nat_tests}}
 use Rattle.std.proofs.lemmas.Str.{encodes-chars, encode_ascii, chars-nil, char_from_byte, byte_from_char, length-encode, len_utf8_bounds}
 use Rattle.std.proofs.lemmas.List.{nil_from_length}
-use Rattle.std.specs.Prelude.{Option, Some, None, option_map, encode_utf8, encode_utf8_all, if◌then◌else◌}
 use Rattle.std.specs.{List.{position}, Char.{is_ascii_digit, is_ascii_alphabetic}}
-use mathlib.Core.Bool.{true≢false}
 use Rattle.iref_grammar.proofs.PartRuleLemmas.{letter_low, scheme_low, digit_low}
 use Rattle.iref_parse.proofs.ScanLemmas.{chars-ascii}
 use Rattle.iref_fault.proofs.BytePlaceLemmas.{located-suc}

@@ -1,10 +1,8 @@
 -- The place that is computed, rule by rule, is where the text is outside its rule.
-use Rattle.std.proofs.Common.{arith, ◌≡◌, ℕ, zero, suc, Bool, true, false, [], ◌∷◌, ◌++◌, ◌⊎◌, inl, inr, refl, sym, ◌∙◌, ap, subst, take, lit<}
+use Rattle.std.proofs.Common.{arith, ◌≡◌, ℕ, zero, suc, Bool, true, false, [], ◌∷◌, ◌++◌, ◌⊎◌, inl, inr, refl, sym, ◌∙◌, ap, subst, take, lit<, ◌==◌, ◌&&◌, ◌||◌, Option, Some, None, option_map, if◌then◌else◌, true≢false}
 use Rattle.std.proofs.{lemmas.Bool.{and_from}, lemmas.Bool.Decides.{eqb_tells, Decides-like, Decides-and, Decides-or}}
 use Rattle.std.proofs.Math.Bool.{or-true}
-use Rattle.std.specs.{Prelude.{◌==◌, ◌&&◌, ◌||◌, Option, Some, None, option_map, if◌then◌else◌}, Bool.{Decides}}
-use Rattle.std.specs.{List.{list_all}, Char.{is_ascii_alphabetic, is_ascii_digit, char_set_contains}}
-use mathlib.Core.Bool.{true≢false}
+use Rattle.std.specs.{Bool.{Decides}, List.{list_all}, Char.{is_ascii_alphabetic, is_ascii_digit, char_set_contains}}
 use Rattle.iref_grammar.specs.{Characters.{CharTests, AreAboveAscii}, Rules.{Text}}
 use Rattle.iref_grammar.specs.Grammar.{colon, slash, left_bracket, is_scheme_char, is_user_info_char, is_reg_name_char, is_path_char, is_fragment_char, is_query_char, IsHost, IsIpLiteral, IsRegName, IsPath}
 use Rattle.iref_grammar.specs.Tests.{is_encoded, is_encoded_after, is_scheme, is_port, is_ip_literal}

@@ -1,10 +1,8 @@
 -- The computed fault of pieces is that of the first that is outside its rule, and there is one.
-use Rattle.std.proofs.Common.{arith, ◌≡◌, ℕ, suc, ◌+◌, ◌<◌, ◌≤◌, true, false, List, [], ◌∷◌, ◌++◌, ◌⊎◌, inl, inr, refl, sym, ◌∙◌, ap, subst, length, take, drop, append_assoc}
+use Rattle.std.proofs.Common.{arith, ◌≡◌, ℕ, suc, ◌+◌, ◌<◌, ◌≤◌, true, false, List, [], ◌∷◌, ◌++◌, ◌⊎◌, inl, inr, refl, sym, ◌∙◌, ap, subst, length, take, drop, append_assoc, chars, Option, Some, None, option_map, true≢false}
 use Rattle.std.proofs.{Math.Logic.{◌↔◌}, lemmas.Bool.{cases_lt}, lemmas.List.{take_all, take-take, take-append-drop}}
 use Rattle.std.proofs.lemmas.Str.{chars-encodes, encodes-chars, scalars-chars}
-use Rattle.std.specs.{Prelude.{chars, Option, Some, None, option_map}, Option.{option_or}, Str.{IsUtf8}}
-use Rattle.std.specs.List.{AllByRecursion}
-use mathlib.Core.Bool.{true≢false}
+use Rattle.std.specs.{Option.{option_or}, Str.{IsUtf8}, List.{AllByRecursion}}
 use Rattle.iref_grammar.specs.{Characters.{CharTests, AreAboveAscii}, Rules.{Text, Rule, InUtf8}}
 use Rattle.iref_fault.specs.Places.{PartRule, rule_of, is_bracketed, Begins, IsFaultPlace, IsPlaceIn, place_in, bytes_before}
 use Rattle.iref_fault.specs.{Cut.{Piece}, Faults.{FaultValue, fault_at, fault_of_piece, first_fault}}

@@ -1,9 +1,7 @@
 -- A text is a reference exactly if the pieces of it are in their rules.
-use Rattle.std.proofs.Common.{◌≡◌, ℕ, ◌+◌, Bool, true, false, List, [], ◌∷◌, ◌++◌, inl, inr, refl, sym, ◌∙◌, ap, subst, length, lit<}
+use Rattle.std.proofs.Common.{◌≡◌, ℕ, ◌+◌, Bool, true, false, List, [], ◌∷◌, ◌++◌, inl, inr, refl, sym, ◌∙◌, ap, subst, length, lit<, ◌||◌, codes, Option, Some, None, IfSome, is_some, chars, if◌then◌else◌, true≢false}
 use Rattle.std.proofs.{Math.Logic.{◌↔◌}, lemmas.Bool.{and_from}, lemmas.Str.{chars-encodes}}
-use Rattle.std.specs.{Prelude.{◌||◌, codes, Option, Some, None, IfSome, is_some, chars, if◌then◌else◌}, Bool.{Decides}}
-use Rattle.std.specs.Str.{IsUtf8}
-use mathlib.Core.Bool.{true≢false}
+use Rattle.std.specs.{Bool.{Decides}, Str.{IsUtf8}}
 use Rattle.iref_grammar.specs.{Characters.{CharTests, AreAboveAscii}, Rules.{Text, InUtf8}}
 use Rattle.iref_grammar.specs.Grammar.{colon, question_mark, hash_sign, IsScheme, IsPath, IsQuery, IsFragment, IsAuthority, IsUri, IsUriReference}
 use Rattle.iref_grammar.specs.Texts.{before, after, begins_with, part_then, then_part}

@@ -1,7 +1,7 @@
 -- An authority's parts are read from their spelling.
-use Rattle.std.proofs.Common.{arith, ◌≡◌, ℕ, ◌+◌, length, take, sym, length-append, true, false, ◌&&◌, [], ◌∷◌, ◌++◌, refl, ◌∙◌, ap, append_assoc, inl, inr, subst, ◌⊎◌, lit<}
+use Rattle.std.proofs.Common.{arith, ◌≡◌, ℕ, ◌+◌, length, take, sym, length-append, true, false, ◌&&◌, [], ◌∷◌, ◌++◌, refl, ◌∙◌, ap, append_assoc, inl, inr, subst, ◌⊎◌, lit<, ◌==◌, Option, Some, None, is_some, IfSome}
 use Rattle.std.proofs.{lemmas.Grind.{common_steps}, Math.Seq.{take-append_seam}}
-use Rattle.std.specs.{Prelude.{◌==◌, Option, Some, None, is_some, IfSome}, Str.{IsCharBoundary}}
+use Rattle.std.specs.Str.{IsCharBoundary}
 use Rattle.iref_grammar.specs.{Rules.{Text}, Grammar.{colon, at_sign, left_bracket, right_bracket}}
 use Rattle.iref_grammar.specs.Texts.{before, after, after_first_char, begins_with, part_then, then_part}
 use Rattle.iref_grammar.specs.Authority.{AuthorityValue, spell_authority, read_authority, read_host_and_port, read_host, bracketed, after_bracketed, has_authority_parts}

@@ -1,10 +1,8 @@
 -- What the components of a text lack: the delimiters that end them.
-use Rattle.std.proofs.Common.{arith, ◌≡◌, ℕ, Bool, true, false, cond, ◌&&◌, ◌||◌, List, [], ◌∷◌, ◌++◌, refl, sym, ◌<◌, lit<}
+use Rattle.std.proofs.Common.{arith, ◌≡◌, ℕ, Bool, true, false, cond, ◌&&◌, ◌||◌, List, [], ◌∷◌, ◌++◌, refl, sym, ◌<◌, lit<, ◌==◌, Option, Some, None, codes, IfSome, true≢false}
 use Rattle.std.proofs.{lemmas.Grind.{common_steps}, lemmas.Option.{same_Some}}
-use Rattle.std.specs.Prelude.{◌==◌, Option, Some, None, codes, IfSome}
 use Rattle.std.specs.Char.{char_set_contains, is_ascii_alphanumeric, is_ascii_alphabetic, is_ascii_digit}
 use Rattle.std.specs.List.{list_all}
-use mathlib.Core.Bool.{true≢false}
 use Rattle.iref_grammar.specs.Rules.{Text}
 use Rattle.iref_grammar.specs.Grammar.{hash_sign, slash, colon, question_mark, at_sign, left_bracket, right_bracket, percent_sign, is_sub_delim, is_scheme_char, is_reg_name_char, is_user_info_char, is_path_char, is_fragment_char, is_query_char}
 use Rattle.iref_grammar.specs.{Texts.{before, after, part_then, then_part}, Characters.{CharTests, AreAboveAscii}}

@@ -1,8 +1,7 @@
 -- A text is a reference exactly if each of its components is in its rule.
-use Rattle.std.proofs.{Common.{arith, ◌≡◌, true, false, refl, sym, ◌∙◌, ap}, lemmas.Grind.{common_steps}}
-use Rattle.std.proofs.lemmas.Bool.{and_from, and_parts}
-use Rattle.std.specs.{Prelude.{Option, Some, None, option_map, is_some}, Borrow.{Bor}, Option.{option_copied}}
-use Rattle.std.specs.Bool.{Decides}
+use Rattle.std.proofs.Common.{arith, ◌≡◌, true, false, refl, sym, ◌∙◌, ap, Option, Some, None, option_map, is_some}
+use Rattle.std.proofs.{lemmas.Grind.{common_steps}, lemmas.Bool.{and_from, and_parts}}
+use Rattle.std.specs.{Borrow.{Bor}, Option.{option_copied}, Bool.{Decides}}
 use Rattle.iref_grammar.specs.{Characters.{CharTests, AreAboveAscii}, Rules.{Text}, Tests.{none_or}}
 use Rattle.iref_grammar.specs.Authority.{spell_authority, read_authority, has_authority_parts, is_authority}
 use Rattle.iref_grammar.specs.Reference.{ReferenceValue, read_reference, is_reference, is_uri}

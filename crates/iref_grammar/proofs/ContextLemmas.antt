@@ -1,8 +1,6 @@
 -- What is read from a text meets the conditions on a path where it stands.
-use Rattle.std.proofs.Common.{arith, ◌≡◌, ℕ, Bool, true, false, not, cond, ◌&&◌, ◌||◌, [], ◌∷◌, drop, refl, sym, ◌∙◌, ap, subst, ◌⊎◌, inl, inr}
+use Rattle.std.proofs.Common.{arith, ◌≡◌, ℕ, Bool, true, false, not, cond, ◌&&◌, ◌||◌, [], ◌∷◌, drop, refl, sym, ◌∙◌, ap, subst, ◌⊎◌, inl, inr, ◌==◌, Option, Some, None, option_map, is_some, codes, true≢false}
 use Rattle.std.proofs.{lemmas.Bool.Decides.{eqb_tells}, lemmas.Bool.{and_from}, lemmas.List.{append-nil}}
-use Rattle.std.specs.Prelude.{◌==◌, Option, Some, None, option_map, is_some, codes}
-use mathlib.Core.Bool.{true≢false}
 use Rattle.iref_grammar.specs.{Rules.{Text}, Grammar.{slash, colon}}
 use Rattle.iref_grammar.specs.Texts.{before, from_first, begins_with, is_empty, pieces_at, lacks}
 use Rattle.iref_grammar.specs.PathValue.{PathValue, begins_empty, shows_its_list, segments_of, read_path}

@@ -1,7 +1,7 @@
 -- Cuts of a text at its first delimiter.
-use Rattle.std.proofs.Common.{arith, ◌≡◌, ℕ, ◌+◌, true, false, not, cond, ◌||◌, List, [], ◌∷◌, ◌++◌, take, drop, refl, ◌∙◌, ap, inl, inr}
+use Rattle.std.proofs.Common.{arith, ◌≡◌, ℕ, ◌+◌, true, false, not, cond, ◌||◌, List, [], ◌∷◌, ◌++◌, take, drop, refl, ◌∙◌, ap, inl, inr, ◌==◌, Option, Some, None}
 use Rattle.std.proofs.{lemmas.Bool.Decides.{eqb_tells}, lemmas.List.{take-append-drop, append-nil}}
-use Rattle.std.specs.{Prelude.{◌==◌, Option, Some, None}, Char.{char_set_contains}, List.{position_or_len}}
+use Rattle.std.specs.{Char.{char_set_contains}, List.{position_or_len}}
 use Rattle.iref_grammar.specs.{Rules.{Text}, Texts.{before, from_first, after, after_first_char, then_part}}
 use Rattle.iref_grammar.proofs.TextLemmas.{lacks}
 

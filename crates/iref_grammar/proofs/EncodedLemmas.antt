@@ -1,9 +1,7 @@
 -- Characters and escapes: the test decides the rule.
-use Rattle.std.proofs.Common.{◌≡◌, ℕ, zero, suc, Bool, true, false, cond, List, [], ◌∷◌, ◌++◌, refl, sym, ◌∙◌, ap, subst, arith, inl, inr}
+use Rattle.std.proofs.Common.{◌≡◌, ℕ, zero, suc, Bool, true, false, cond, List, [], ◌∷◌, ◌++◌, refl, sym, ◌∙◌, ap, subst, arith, inl, inr, ◌==◌, if◌then◌else◌, Some, None, true≢false}
 use Rattle.std.proofs.lemmas.Bool.Decides.{eqb_tells}
-use Rattle.std.specs.{Prelude.{◌==◌, if◌then◌else◌, Some, None}, List.{AllByRecursion, concat}, Bool.{Decides}}
-use Rattle.std.specs.Char.{is_ascii_hexdigit}
-use mathlib.Core.Bool.{true≢false}
+use Rattle.std.specs.{List.{AllByRecursion, concat}, Bool.{Decides}, Char.{is_ascii_hexdigit}}
 use Rattle.iref_grammar.specs.{Rules.{Text, Rule, OneOf, ◌or◌}, Grammar.{percent_sign, IsPctEncoded, IsEncoded}}
 use Rattle.iref_grammar.specs.Tests.{owed_after, is_encoded_after, is_encoded}
 use Rattle.iref_grammar.proofs.RuleLemmas.{none_of, one_more}

@@ -1,6 +1,5 @@
 -- The front of a reference, before its fragment or its query, is a reference.
-use Rattle.std.proofs.{Common.{arith, ◌≡◌, true, refl, sym, ◌∙◌, ap}, lemmas.Grind.{common_steps}}
-use Rattle.std.specs.Prelude.{ℕ, Option, None, option_map}
+use Rattle.std.proofs.{Common.{arith, ◌≡◌, true, refl, sym, ◌∙◌, ap, ℕ, Option, None, option_map}, lemmas.Grind.{common_steps}}
 use Rattle.iref_grammar.specs.{Characters.{CharTests}, Rules.{Text}, Grammar.{hash_sign, question_mark}}
 use Rattle.iref_grammar.specs.Texts.{before, after, after_first_char, lacks}
 use Rattle.iref_grammar.specs.Reference.{ReferenceValue, split_scheme, split_authority, hierarchy, read_reference, is_reference}

@@ -1,6 +1,5 @@
 -- Texts in the rules as they are written, each with its division.
-use Rattle.std.proofs.Common.{◌≡◌, ℕ, Bool, true, false, [], ◌++◌, refl, inl, inr}
-use Rattle.std.specs.Prelude.{codes}
+use Rattle.std.proofs.Common.{◌≡◌, ℕ, Bool, true, false, [], ◌++◌, refl, inl, inr, codes}
 use Rattle.iref_grammar.specs.{Characters.{uri_chars}, Rules.{Text, Rule, Mark, ◌⨾◌}}
 use Rattle.iref_grammar.specs.Grammar.{is_reg_name_char, is_user_info_char, is_path_char, is_fragment_char, is_query_char, percent_sign, IsEncoded, IsAuthority, IsSegment, IsAbEmptyPath, IsUri, IsUriReference}
 use Rattle.iref_grammar.specs.Tests.{is_encoded, owed_after}

@@ -1,12 +1,9 @@
 -- What a host that is taken lacks.
-use Rattle.std.proofs.Common.{◌≡◌, ℕ, ◌<◌, true, false, not, ◌&&◌, ◌||◌, List, [], ◌∷◌, ◌++◌, refl, sym, ◌∙◌, ap, subst, arith, ◌⊎◌, inl, inr, lit<}
+use Rattle.std.proofs.Common.{◌≡◌, ℕ, ◌<◌, true, false, not, ◌&&◌, ◌||◌, List, [], ◌∷◌, ◌++◌, refl, sym, ◌∙◌, ap, subst, arith, ◌⊎◌, inl, inr, lit<, ◌==◌, decimal, codes, Option, Some, None, is_some, lt_trans, true≢false}
 use Rattle.std.proofs.{lemmas.Grind.{common_steps}, lemmas.Fmt.{decimal_is_IsNumeral}, lemmas.Bool.Decides.{eqb_tells}}
 use Rattle.std.proofs.lemmas.Bool.{and_from}
-use Rattle.std.specs.Prelude.{◌==◌, decimal, codes, Option, Some, None, is_some}
 use Rattle.std.specs.{List.{list_all, AllZip, join_with_byte}, Char.{char_set_contains, digit_value, is_ascii_hexdigit}}
 use Rattle.std.specs.Str.Parse.{AllDigits}
-use native.Mathlib.Nat.{lt_trans}
-use mathlib.Core.Bool.{true≢false}
 use Rattle.iref_grammar.specs.{Rules.{Text}, Grammar.{full_stop, is_future_char}}
 use Rattle.iref_grammar.specs.Texts.{before, after, is_empty, then_part}
 use Rattle.iref_grammar.specs.IpAddresses.{IsIpv4, IsGroup, AreGroups, AreLastGroups, IsFullIpv6, IsShortIpv6, ipv6_value}

@@ -1,12 +1,9 @@
 -- IPvFuture, IP literal and host: each test decides its rule.
-use Rattle.std.proofs.Common.{◌≡◌, ℕ, ◌<◌, ◌≤◌, Bool, true, false, not, cond, ◌&&◌, List, [], ◌∷◌, ◌++◌, refl, sym, ◌∙◌, ap, subst, arith, ◌⊎◌, inl, inr, lit<}
+use Rattle.std.proofs.Common.{◌≡◌, ℕ, ◌<◌, ◌≤◌, Bool, true, false, not, cond, ◌&&◌, List, [], ◌∷◌, ◌++◌, refl, sym, ◌∙◌, ap, subst, arith, ◌⊎◌, inl, inr, lit<, ◌==◌, codes, decimal, Option, Some, None, is_some, lt_trans, true≢false}
 use Rattle.std.proofs.{lemmas.Grind.{common_steps}, lemmas.Fmt.{decimal_is_IsNumeral}}
 use Rattle.std.proofs.{lemmas.Bool.Decides.{nat_tests, Decides-like, Decides-or}, lemmas.Bool.{and_from}}
-use Rattle.std.specs.{Prelude.{◌==◌, codes, decimal, Option, Some, None, is_some}, Bool.{Decides}}
-use Rattle.std.specs.List.{list_all, join_with_byte}
+use Rattle.std.specs.{Bool.{Decides}, List.{list_all, join_with_byte}}
 use Rattle.std.specs.{Char.{is_ascii, is_ascii_hexdigit, char_set_contains, digit_value}, Str.Parse.{AllDigits}}
-use native.Mathlib.Nat.{lt_trans}
-use mathlib.Core.Bool.{true≢false}
 use Rattle.iref_grammar.specs.Characters.{CharTests, AreAboveAscii}
 use Rattle.iref_grammar.specs.Rules.{Text, Rule, OneOf, OneOrMore, ◌or◌, InUtf8}
 use Rattle.iref_grammar.specs.Grammar.{full_stop, left_bracket, right_bracket, percent_sign, is_future_char, is_reg_name_char, IsIpv4Address, IsIpv6Address, IsIpvFuture, IsIpLiteral, IsRegName, IsHost}

@@ -1,10 +1,8 @@
 -- IPv4 addresses: the computed value is the one of the rule.
-use Rattle.std.proofs.Common.{◌≡◌, ℕ, ◌^◌, ◌<◌, Bool, true, false, cond, ◌&&◌, List, [], ◌∷◌, map, refl, sym, ◌∙◌, ap, subst, arith, lit<}
+use Rattle.std.proofs.Common.{◌≡◌, ℕ, ◌^◌, ◌<◌, Bool, true, false, cond, ◌&&◌, List, [], ◌∷◌, map, refl, sym, ◌∙◌, ap, subst, arith, lit<, nat_lt, bytes_eq, decimal, Option, Some, None, option_and_then, lt_trans}
 use Rattle.std.proofs.{lemmas.Fmt.{decimal_is_IsNumeral}, lemmas.Bool.Decides.{nat_tests}, lemmas.Bool.{and_from}}
-use Rattle.std.specs.Prelude.{nat_lt, bytes_eq, decimal, Option, Some, None, option_and_then}
 use Rattle.std.specs.{List.{AllZip, join_with_byte}, Str.Parse.{digits_value, AllDigits}}
 use Rattle.std.specs.Cmp.Lexicographic.{bytes_decides}
-use native.Mathlib.Nat.{lt_trans}
 use Rattle.iref_grammar.specs.{Rules.{Text}, Texts.{pieces_at}}
 use Rattle.iref_grammar.specs.IpAddresses.{IsIpv4, all_some, octet_value, four_octets, ipv4_value}
 use Rattle.iref_grammar.proofs.TextLemmas.{lacks, pieces_at-join, join-pieces_at}

@@ -1,8 +1,8 @@
 -- The rule of IPv4 addresses: they are the texts of four numbers below 256 in decimal digits.
-use Rattle.std.proofs.Common.{◌≡◌, ℕ, ◌+◌, ◌*◌, ◌-◌, ◌/◌, ◌%◌, ◌<◌, ◌≤◌, true, List, [], ◌∷◌, ◌++◌, length, refl, sym, ◌∙◌, ap, subst, arith, inl, inr}
+use Rattle.std.proofs.Common.{◌≡◌, ℕ, ◌+◌, ◌*◌, ◌-◌, ◌/◌, ◌%◌, ◌<◌, ◌≤◌, true, List, [], ◌∷◌, ◌++◌, length, refl, sym, ◌∙◌, ap, subst, arith, inl, inr, decimal}
 use Rattle.std.proofs.{lemmas.Grind.{common_steps}, lemmas.Fmt.{decimal_digit, decimal_step}}
 use Rattle.std.proofs.lemmas.Bool.Decides.{nat_tests, leb_tells}
-use Rattle.std.specs.{Prelude.{decimal}, Char.{is_ascii_digit}, Int.{is_in_range}, List.{AllByRecursion, concat}}
+use Rattle.std.specs.{Char.{is_ascii_digit}, Int.{is_in_range}, List.{AllByRecursion, concat}}
 use Rattle.iref_grammar.specs.{Rules.{Text, OneOf}, Grammar.{full_stop, IsDecOctet, IsIpv4Address}}
 use Rattle.iref_grammar.specs.IpAddresses.{IsIpv4, number_of}
 use Rattle.iref_grammar.proofs.Ipv4Lemmas.{wide}

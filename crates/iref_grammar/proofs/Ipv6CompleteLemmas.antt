@@ -1,10 +1,8 @@
 -- IPv6 addresses: each text of the rule has its number computed.
-use Rattle.std.proofs.Common.{◌≡◌, ℕ, ◌+◌, ◌/◌, ◌%◌, ◌≤◌, Bool, true, not, cond, ◌&&◌, List, [], ◌∷◌, ◌++◌, length, map, refl, sym, ◌∙◌, ap, subst, arith, ◌⊎◌, inl, inr}
+use Rattle.std.proofs.Common.{◌≡◌, ℕ, ◌+◌, ◌/◌, ◌%◌, ◌≤◌, Bool, true, not, cond, ◌&&◌, List, [], ◌∷◌, ◌++◌, length, map, refl, sym, ◌∙◌, ap, subst, arith, ◌⊎◌, inl, inr, ◌==◌, nat_le, codes, decimal, Option, Some, None, option_map, option_and_then, true≢false}
 use Rattle.std.proofs.{lemmas.Grind.{common_steps}, lemmas.List.{append-nil}, lemmas.Bool.Decides.{nat_tests}}
 use Rattle.std.proofs.lemmas.Bool.{and_from}
-use Rattle.std.specs.Prelude.{◌==◌, nat_le, codes, decimal, Option, Some, None, option_map, option_and_then}
 use Rattle.std.specs.{Option.{option_or}, List.{list_all, AllZip, join_with_byte}, Char.{is_ascii_hexdigit}}
-use mathlib.Core.Bool.{true≢false}
 use Rattle.iref_grammar.specs.{Rules.{Text}, Texts.{is_empty}}
 use Rattle.iref_grammar.specs.IpAddresses.{IsIpv4, IsGroup, AreGroups, AreLastGroups, IsShortIpv6, IsFullIpv6, IsIpv6, number_of, filled_groups, all_some, group_value, last_groups_of, group_pieces, around_double_colon, eight_groups, joined_groups, short_ipv6_groups, ipv6_groups, ipv6_value}
 use Rattle.iref_grammar.proofs.TextLemmas.{lacks, pieces_at-join, first_of_both, second_of_both, list_all-snoc}

@@ -1,9 +1,7 @@
 -- IPv6 addresses: the computed value is one of the rule.
-use Rattle.std.proofs.Common.{◌≡◌, ℕ, ◌+◌, ◌/◌, ◌%◌, ◌≤◌, true, List, [], ◌∷◌, ◌++◌, length, map, drop, refl, sym, ◌∙◌, ap, subst, arith, append_assoc, ◌⊎◌, inl, inr}
+use Rattle.std.proofs.Common.{◌≡◌, ℕ, ◌+◌, ◌/◌, ◌%◌, ◌≤◌, true, List, [], ◌∷◌, ◌++◌, length, map, drop, refl, sym, ◌∙◌, ap, subst, arith, append_assoc, ◌⊎◌, inl, inr, ◌==◌, codes, Option, Some, None, option_map, option_and_then, true≢false}
 use Rattle.std.proofs.{lemmas.Grind.{common_steps}, lemmas.Option.{same_Some}, Math.Bool.{and-false}}
-use Rattle.std.specs.{Prelude.{◌==◌, codes, Option, Some, None, option_map, option_and_then}, Option.{option_or}}
-use Rattle.std.specs.List.{AllZip, join_with_byte}
-use mathlib.Core.Bool.{true≢false}
+use Rattle.std.specs.{Option.{option_or}, List.{AllZip, join_with_byte}}
 use Rattle.iref_grammar.specs.{Rules.{Text}, Texts.{begins_with}}
 use Rattle.iref_grammar.specs.IpAddresses.{IsIpv4, IsGroup, AreGroups, AreLastGroups, IsShortIpv6, IsFullIpv6, IsIpv6, number_of, filled_groups, all_some, ipv4_value, group_value, last_group_values, last_groups_of, group_pieces, around_double_colon, eight_groups, joined_groups, short_ipv6_groups, ipv6_groups, ipv6_value}
 use Rattle.iref_grammar.proofs.{TextLemmas.{join-pieces_at}, Ipv4Lemmas.{ipv4_value-sound}}

@@ -1,7 +1,7 @@
 -- The rule of IPv6 addresses: they are the texts of eight groups, in full or with `::`.
-use Rattle.std.proofs.Common.{◌≡◌, ℕ, zero, suc, ◌+◌, ◌/◌, ◌%◌, ◌≤◌, Bool, true, List, [], ◌∷◌, ◌++◌, length, map, refl, sym, ◌∙◌, ap, subst, arith, append_assoc, append-nil, length-append, inl, inr}
+use Rattle.std.proofs.Common.{◌≡◌, ℕ, zero, suc, ◌+◌, ◌/◌, ◌%◌, ◌≤◌, Bool, true, List, [], ◌∷◌, ◌++◌, length, map, refl, sym, ◌∙◌, ap, subst, arith, append_assoc, append-nil, length-append, inl, inr, codes}
 use Rattle.std.proofs.{lemmas.Grind.{common_steps}, lemmas.List.{length-map}}
-use Rattle.std.specs.{Prelude.{codes}, Char.{is_ascii_hexdigit}}
+use Rattle.std.specs.Char.{is_ascii_hexdigit}
 use Rattle.std.specs.{List.{AllByRecursion, AllZip, concat, list_all, join_with_byte}, Str.Parse.{digits_value}}
 use Rattle.iref_grammar.specs.Rules.{Text, Rule, OneOf, ◌⨾◌, Optional, Exactly, AtMost}
 use Rattle.iref_grammar.specs.Grammar.{IsH16, IsH16Colon, IsLs32, IsIpv6Address}

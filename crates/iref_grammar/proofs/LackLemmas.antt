@@ -1,7 +1,6 @@
 -- What a test takes lacks each delimiter that the test refuses.
-use Rattle.std.proofs.Common.{◌≡◌, ℕ, ◌<◌, zero, suc, Bool, true, false, not, ◌||◌, [], ◌∷◌, ◌++◌, refl, ◌∙◌, subst, arith}
+use Rattle.std.proofs.Common.{◌≡◌, ℕ, ◌<◌, zero, suc, Bool, true, false, not, ◌||◌, [], ◌∷◌, ◌++◌, refl, ◌∙◌, subst, arith, ◌==◌, chars, encode_utf8_all, bytes_eq, Some}
 use Rattle.std.proofs.lemmas.Grind.{common_steps}
-use Rattle.std.specs.Prelude.{◌==◌, chars, encode_utf8_all, bytes_eq, Some}
 use Rattle.std.specs.{Char.{char_set_contains, encode_utf8, is_ascii_hexdigit}, Str.{is_utf8, all_scalars}}
 use Rattle.std.specs.{List.{list_all}, Cmp.Lexicographic.{bytes_decides}}
 use Rattle.iref_grammar.specs.{Rules.{Text}, Grammar.{percent_sign}, Tests.{is_encoded_after, is_encoded, in_utf8}}

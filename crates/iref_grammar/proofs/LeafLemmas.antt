@@ -1,10 +1,9 @@
 -- The rules of single components: each test decides its rule.
-use Rattle.std.proofs.Common.{arith, ◌≡◌, Bool, true, false, ◌||◌, [], ◌∷◌, ◌++◌, refl, sym, ◌∙◌, ap, subst, lit<}
+use Rattle.std.proofs.Common.{arith, ◌≡◌, Bool, true, false, ◌||◌, [], ◌∷◌, ◌++◌, refl, sym, ◌∙◌, ap, subst, lit<, chars, encode_utf8_all, bytes_eq, true≢false}
 use Rattle.std.proofs.{lemmas.Grind.{common_steps}, lemmas.Str.{is_utf8-from_IsUtf8, chars-encodes}}
 use Rattle.std.proofs.lemmas.Bool.{and_from}
-use Rattle.std.specs.{Prelude.{chars, encode_utf8_all, bytes_eq}, Bool.{Decides}, Str.{is_utf8, all_scalars}}
+use Rattle.std.specs.{Bool.{Decides}, Str.{is_utf8, all_scalars}}
 use Rattle.std.specs.{List.{list_all}, Cmp.Lexicographic.{bytes_decides}, Char.{is_ascii_alphabetic, is_ascii_digit}}
-use mathlib.Core.Bool.{true≢false}
 use Rattle.iref_grammar.specs.{Characters.{CharTests, AreAboveAscii}, Rules.{Text, Rule, InUtf8, OneOf, ZeroOrMore}}
 use Rattle.iref_grammar.specs.Grammar.{percent_sign, is_reg_name_char, is_user_info_char, is_path_char, is_fragment_char, is_query_char, is_scheme_char, IsUserInfo, IsRegName, IsSegment, IsQuery, IsFragment, IsScheme, IsPort}
 use Rattle.iref_grammar.specs.Tests.{in_utf8, is_user_info, is_reg_name, is_segment, is_query, is_fragment, is_scheme, is_port}

@@ -1,7 +1,7 @@
 -- The scheme and the authority that bytes begin with, by their first delimiter.
-use Rattle.std.proofs.Common.{arith, ◌≡◌, ℕ, Bool, true, false, [], ◌∷◌, refl, sym, ◌∙◌, ap, inl, inr, subst}
+use Rattle.std.proofs.Common.{arith, ◌≡◌, ℕ, Bool, true, false, [], ◌∷◌, refl, sym, ◌∙◌, ap, inl, inr, subst, ◌==◌, ◌||◌, codes}
 use Rattle.std.proofs.lemmas.Bool.Decides.{eqb_tells}
-use Rattle.std.specs.{Prelude.{◌==◌, ◌||◌, codes}, Char.{char_set_contains}}
+use Rattle.std.specs.Char.{char_set_contains}
 use Rattle.iref_grammar.specs.{Rules.{Text}, Grammar.{colon}, Texts.{before, from_first, begins_with}}
 use Rattle.iref_grammar.specs.{declared.context.PathContext.{PathContext}, Contexts.{begins_with_scheme, context_from}}
 use Rattle.iref_grammar.proofs.CutLemmas.{before-no, from_first-no}

@@ -1,9 +1,7 @@
 -- No two references spell one text, where each part lacks the delimiters that end it.
-use Rattle.std.proofs.Common.{arith, ◌≡◌, Bool, true, false, not, cond, ◌&&◌, ◌||◌, List, [], ◌∷◌, ◌++◌, drop, refl, sym, ◌∙◌, ap, append_assoc}
+use Rattle.std.proofs.Common.{arith, ◌≡◌, Bool, true, false, not, cond, ◌&&◌, ◌||◌, List, [], ◌∷◌, ◌++◌, drop, refl, sym, ◌∙◌, ap, append_assoc, ◌==◌, Option, Some, None, option_map, codes, is_some, IfSome, true≢false}
 use Rattle.std.proofs.{lemmas.Grind.{common_steps}, lemmas.Bool.{not-true}}
-use Rattle.std.specs.{Prelude.{◌==◌, Option, Some, None, option_map, codes, is_some, IfSome}, Char.{char_set_contains}}
-use Rattle.std.specs.List.{list_all, join_with_byte}
-use mathlib.Core.Bool.{true≢false}
+use Rattle.std.specs.{Char.{char_set_contains}, List.{list_all, join_with_byte}}
 use Rattle.iref_grammar.specs.{Rules.{Text}, Grammar.{hash_sign, slash, colon, question_mark}}
 use Rattle.iref_grammar.specs.Texts.{before, from_first, after, after_first_char, begins_with, part_then, then_part, is_empty}
 use Rattle.iref_grammar.specs.Authority.{AuthorityValue, spell_authority, read_authority}

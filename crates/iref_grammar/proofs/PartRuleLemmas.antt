@@ -1,7 +1,7 @@
 -- Parts that may be left out, lists of parts, and the parts that are ASCII.
-use Rattle.std.proofs.Common.{◌≡◌, ℕ, Bool, true, false, List, [], ◌∷◌, refl, arith, ◌≤◌}
+use Rattle.std.proofs.Common.{◌≡◌, ℕ, Bool, true, false, List, [], ◌∷◌, refl, arith, ◌≤◌, Option, Some, None, IfSome}
 use Rattle.std.proofs.lemmas.Bool.Decides.{nat_tests, Decides-like, Decides-and}
-use Rattle.std.specs.{Prelude.{Option, Some, None, IfSome}, Char.{is_ascii_alphabetic, is_ascii_digit, is_ascii}}
+use Rattle.std.specs.Char.{is_ascii_alphabetic, is_ascii_digit, is_ascii}
 use Rattle.std.specs.{List.{list_all, AllByRecursion}, Bool.{Decides}}
 use Rattle.iref_grammar.specs.{Rules.{Text, InUtf8}, Grammar.{is_scheme_char, IsScheme, IsPort}}
 use Rattle.iref_grammar.specs.Tests.{none_or, is_port, is_scheme}

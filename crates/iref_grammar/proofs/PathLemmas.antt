@@ -1,8 +1,7 @@
 -- A path's text is read as one path.
-use Rattle.std.proofs.Common.{arith, ◌≡◌, ℕ, Bool, true, false, not, cond, List, [], ◌∷◌, ◌++◌, refl, sym, ◌∙◌, ap, subst, inl, inr}
+use Rattle.std.proofs.Common.{arith, ◌≡◌, ℕ, Bool, true, false, not, cond, List, [], ◌∷◌, ◌++◌, refl, sym, ◌∙◌, ap, subst, inl, inr, ◌==◌, true≢false}
 use Rattle.std.proofs.{Math.Logic.{◌↔◌}, lemmas.Bool.Decides.{eqb_tells}}
-use Rattle.std.specs.{Prelude.{◌==◌}, List.{list_all, join_with_byte}}
-use mathlib.Core.Bool.{true≢false}
+use Rattle.std.specs.List.{list_all, join_with_byte}
 use Rattle.iref_grammar.specs.{Rules.{Text}, Grammar.{slash}, Texts.{pieces_at}}
 use Rattle.iref_grammar.specs.PathValue.{PathValue, spell_path, shows_its_list, IsReadAs, segments_of, read_path, is_one_empty, begins_empty}
 use Rattle.iref_grammar.proofs.TextLemmas.{lacks, join-pieces_at, lacks-pieces_at, pieces_at-join, first_of_both}

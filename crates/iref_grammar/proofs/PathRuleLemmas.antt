@@ -1,8 +1,7 @@
 -- The path rules: their texts are the spellings of the paths that may stand there.
-use Rattle.std.proofs.Common.{arith, ◌≡◌, Bool, true, false, not, ◌&&◌, ◌||◌, List, [], ◌∷◌, ◌++◌, refl, sym, ◌∙◌, ap, inl, inr}
+use Rattle.std.proofs.Common.{arith, ◌≡◌, Bool, true, false, not, ◌&&◌, ◌||◌, List, [], ◌∷◌, ◌++◌, refl, sym, ◌∙◌, ap, inl, inr, true≢false}
 use Rattle.std.proofs.{Math.Logic.{◌↔◌}, lemmas.List.{append-nil}, lemmas.Bool.{not-true}, Math.Bool.{or-true}}
 use Rattle.std.specs.List.{AllByRecursion, concat, join_with_byte}
-use mathlib.Core.Bool.{true≢false}
 use Rattle.iref_grammar.specs.{declared.context.PathContext.{PathContext}, Characters.{CharTests, AreAboveAscii}}
 use Rattle.iref_grammar.specs.Rules.{Text, Rule, Empty, Mark, ◌⨾◌, ◌or◌, Optional, ZeroOrMore, InUtf8}
 use Rattle.iref_grammar.specs.Grammar.{slash, colon, IsPathChar, IsSegment, IsNonEmptySegment, IsNonColonSegment, IsAbEmptyPath, IsRootlessPath, IsAbsolutePath}

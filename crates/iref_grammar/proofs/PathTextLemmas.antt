@@ -1,7 +1,7 @@
 -- Texts of path characters and `/`: the test decides the rule.
-use Rattle.std.proofs.{Common.{arith, ℕ, Bool, false, ◌||◌, inl, inr}, lemmas.Bool.Decides.{Decides-like}}
+use Rattle.std.proofs.{Common.{arith, ℕ, Bool, false, ◌||◌, inl, inr, ◌==◌}, lemmas.Bool.Decides.{Decides-like}}
 use Rattle.std.proofs.Math.Bool.{or-true}
-use Rattle.std.specs.{Prelude.{◌==◌}, Bool.{Decides}}
+use Rattle.std.specs.Bool.{Decides}
 use Rattle.iref_grammar.specs.{Characters.{CharTests, AreAboveAscii}, Rules.{Text, Rule, Mark, ◌or◌, InUtf8}}
 use Rattle.iref_grammar.specs.{Grammar.{slash, is_path_char, IsPathChar, IsPath}, Tests.{is_encoded, is_path}}
 use Rattle.iref_grammar.proofs.{RuleLemmas.{more_like}, EncodedLemmas.{Piece, Decides-is_encoded}}

@@ -1,6 +1,6 @@
 -- Percent-encoded texts, and the rules whose texts are among them.
-use Rattle.std.proofs.{Common.{arith, ◌≡◌, ℕ, Bool, true, [], ◌∷◌, refl, ◌⊎◌}, lemmas.Bool.{and_from}}
-use Rattle.std.specs.{Prelude.{Option, Some, None, chars}, Bool.{Decides}, Str.{is_utf8}, List.{list_all}}
+use Rattle.std.proofs.{Common.{arith, ◌≡◌, ℕ, Bool, true, [], ◌∷◌, refl, ◌⊎◌, Option, Some, None, chars}, lemmas.Bool.{and_from}}
+use Rattle.std.specs.{Bool.{Decides}, Str.{is_utf8}, List.{list_all}}
 use Rattle.iref_grammar.specs.{Rules.{Text, InUtf8}, Characters.{CharTests}}
 use Rattle.iref_grammar.specs.Grammar.{percent_sign, is_not_percent, is_user_info_char, is_reg_name_char, is_path_char, is_query_char, is_fragment_char, IsPctStr}
 use Rattle.iref_grammar.specs.Tests.{owed_after, is_encoded_after, is_encoded, in_utf8, is_pct_str, is_user_info, is_reg_name, is_segment, is_query, is_fragment, is_ip_literal, is_host}

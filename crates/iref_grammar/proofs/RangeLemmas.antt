@@ -1,7 +1,7 @@
 -- Each component of a reference stands in its range of the spelling.
-use Rattle.std.proofs.Common.{◌≡◌, ℕ, ◌+◌, ◌≤◌, [], ◌++◌, length, refl, sym, ◌∙◌, ap, subst, arith, append_assoc}
+use Rattle.std.proofs.Common.{◌≡◌, ℕ, ◌+◌, ◌≤◌, [], ◌++◌, length, refl, sym, ◌∙◌, ap, subst, arith, append_assoc, Option, Some, None, IfSome, option_map}
 use Rattle.std.proofs.{lemmas.Grind.{common_steps}, lemmas.List.{append-nil, length-append}}
-use Rattle.std.specs.{Prelude.{Option, Some, None, IfSome, option_map}, declared.ops.Range.{Range}}
+use Rattle.std.specs.declared.ops.Range.{Range}
 use Rattle.iref_grammar.specs.{Rules.{Text}, Texts.{then_part}, Authority.{spell_authority}, PathValue.{spell_path}}
 use Rattle.iref_grammar.specs.Reference.{ReferenceValue, spell, read_reference}
 use Rattle.iref_grammar.specs.ComponentOffsets.{range_from, offsets_in, offsets_of, text_at}

@@ -1,8 +1,7 @@
 -- A readable reference is delimited, so it is the one that is read from its text.
-use Rattle.std.proofs.Common.{arith, ◌≡◌, ℕ, Bool, true, false, ◌&&◌, List, [], ◌∷◌, ◌++◌, refl}
+use Rattle.std.proofs.Common.{arith, ◌≡◌, ℕ, Bool, true, false, ◌&&◌, List, [], ◌∷◌, ◌++◌, refl, ◌==◌, Option, Some, None, option_map, codes, IfSome}
 use Rattle.std.proofs.lemmas.Bool.{and_parts}
-use Rattle.std.specs.{Prelude.{◌==◌, Option, Some, None, option_map, codes, IfSome}, Char.{is_ascii_alphabetic}}
-use Rattle.std.specs.List.{list_all, join_with_byte}
+use Rattle.std.specs.{Char.{is_ascii_alphabetic}, List.{list_all, join_with_byte}}
 use Rattle.iref_grammar.specs.{Rules.{Text}, Grammar.{hash_sign, slash, colon, question_mark, at_sign, is_scheme_char}}
 use Rattle.iref_grammar.specs.Texts.{part_then, then_part}
 use Rattle.iref_grammar.specs.Authority.{AuthorityValue, spell_authority, has_authority_parts}

@@ -1,7 +1,6 @@
 -- Reading a reference and spelling it gives the text.
-use Rattle.std.proofs.Common.{arith, ◌≡◌, [], ◌∷◌, ◌++◌, refl, sym, ◌∙◌, ap, append_assoc}
+use Rattle.std.proofs.Common.{arith, ◌≡◌, [], ◌∷◌, ◌++◌, refl, sym, ◌∙◌, ap, append_assoc, Option, Some, None, option_map, codes}
 use Rattle.std.proofs.lemmas.Grind.{common_steps}
-use Rattle.std.specs.Prelude.{Option, Some, None, option_map, codes}
 use Rattle.iref_grammar.specs.{Rules.{Text}, Grammar.{hash_sign, colon, question_mark}}
 use Rattle.iref_grammar.specs.{Texts.{before, after, part_then, then_part}, Authority.{spell_authority, read_authority}}
 use Rattle.iref_grammar.specs.Reference.{spell, scheme_of, split_scheme, split_authority, hierarchy, read_reference}

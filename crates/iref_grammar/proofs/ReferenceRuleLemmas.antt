@@ -1,9 +1,7 @@
 -- References: the test, by its one reading, decides the rule.
-use Rattle.std.proofs.Common.{arith, ◌≡◌, ℕ, Bool, true, false, ◌&&◌, [], ◌∷◌, ◌++◌, refl, sym, ◌∙◌, ap, subst, append_assoc, inl, inr}
+use Rattle.std.proofs.Common.{arith, ◌≡◌, ℕ, Bool, true, false, ◌&&◌, [], ◌∷◌, ◌++◌, refl, sym, ◌∙◌, ap, subst, append_assoc, inl, inr, codes, Option, Some, None, option_map, IfSome, IsSome, is_some, true≢false}
 use Rattle.std.proofs.{Math.Logic.{◌↔◌}, lemmas.Bool.Decides.{Decides-like, Decides-and}, lemmas.Bool.{and_from}}
-use Rattle.std.specs.{Prelude.{codes, Option, Some, None, option_map, IfSome, IsSome, is_some}, Bool.{Decides}}
-use Rattle.std.specs.List.{list_all}
-use mathlib.Core.Bool.{true≢false}
+use Rattle.std.specs.{Bool.{Decides}, List.{list_all}}
 use Rattle.iref_grammar.specs.Characters.{CharTests, AreAboveAscii}
 use Rattle.iref_grammar.specs.Rules.{Text, Rule, Mark, ◌⨾◌, ◌or◌, Optional, InUtf8}
 use Rattle.iref_grammar.specs.Grammar.{hash_sign, slash, colon, question_mark, IsScheme, IsAuthority, IsSegment, IsAbEmptyPath, IsQuery, IsFragment, IsNetPath, IsHierPart, IsRelativePart, IsQueryAndFragment, IsUri, IsUriReference}

@@ -1,8 +1,7 @@
 -- The rules of first segments: a segment that is not empty, and one that holds no `:`.
-use Rattle.std.proofs.Common.{arith, ◌≡◌, ℕ, ◌<◌, Bool, true, false, ◌||◌, List, [], ◌∷◌, ◌++◌, refl, sym, ◌∙◌, ap, subst, inl, inr, lit<}
+use Rattle.std.proofs.Common.{arith, ◌≡◌, ℕ, ◌<◌, Bool, true, false, ◌||◌, List, [], ◌∷◌, ◌++◌, refl, sym, ◌∙◌, ap, subst, inl, inr, lit<, ◌==◌, encode_utf8_all, true≢false}
 use Rattle.std.proofs.{lemmas.Grind.{common_steps}, Math.Logic.{◌↔◌}}
-use Rattle.std.specs.{Prelude.{◌==◌, encode_utf8_all}, List.{AllByRecursion, concat}, Char.{encode_utf8}}
-use mathlib.Core.Bool.{true≢false}
+use Rattle.std.specs.{List.{AllByRecursion, concat}, Char.{encode_utf8}}
 use Rattle.iref_grammar.specs.{Characters.{CharTests, AreAboveAscii}, Rules.{Text, Rule, ZeroOrMore, OneOrMore, InUtf8}}
 use Rattle.iref_grammar.specs.Grammar.{colon, at_sign, percent_sign, is_reg_name_char, is_user_info_char, is_path_char, IsEncoded, IsSegment, IsNonEmptySegment, IsNonColonSegment}
 use Rattle.iref_grammar.specs.Texts.{is_empty}

@@ -1,6 +1,6 @@
 -- Slices of a text that end at a delimiter.
-use Rattle.std.proofs.{Common.{◌≡◌, ℕ, ◌<◌, [], ◌∷◌, ◌++◌, length, refl, arith}, lemmas.Grind.{common_steps}}
-use Rattle.std.specs.{Prelude.{◌==◌, Option, Some, None}, Str.{IsCharBoundary}, List.{position_or_len}}
+use Rattle.std.proofs.{Common.{◌≡◌, ℕ, ◌<◌, [], ◌∷◌, ◌++◌, length, refl, arith, ◌==◌, Option, Some, None}, lemmas.Grind.{common_steps}}
+use Rattle.std.specs.{Str.{IsCharBoundary}, List.{position_or_len}}
 use Rattle.iref_grammar.specs.{Rules.{Text}, Texts.{then_part, pieces_at}}
 
 -- a text may be cut before an ASCII delimiter, and at its end

@@ -1,10 +1,9 @@
 -- The pieces into which code cuts a reference are its components.
-use Rattle.std.proofs.Common.{◌≡◌, ◌≢◌, ℕ, Bool, true, false, not, cond, ◌||◌, ltb, List, [], ◌∷◌, ◌++◌, length, refl, sym, ◌∙◌, ap, subst, arith, inl, inr}
+use Rattle.std.proofs.Common.{◌≡◌, ◌≢◌, ℕ, Bool, true, false, not, cond, ◌||◌, ltb, List, [], ◌∷◌, ◌++◌, length, refl, sym, ◌∙◌, ap, subst, arith, inl, inr, true≢false}
 use Rattle.std.proofs.{lemmas.Grind.{common_steps}, lemmas.List.Sums.{prefix_len-le-length}}
 use Rattle.std.proofs.{lemmas.Bool.Decides.{eqb_tells}, lemmas.List.{append-nil}}
 use Rattle.std.specs.{Prelude.{◌==◌, Option, Some, None, MatchOption, unwrap_or}, Borrow.{Bor}, Option.{option_copied}}
 use Rattle.std.specs.{Char.{char_set_contains}, List.{position_or_len}}
-use mathlib.Core.Bool.{true≢false}
 use Rattle.iref_grammar.specs.{Rules.{Text}, Grammar.{hash_sign, slash, colon, question_mark}}
 use Rattle.iref_grammar.specs.Texts.{before, from_first, after, after_first_char, lacks}
 use Rattle.iref_grammar.specs.Reference.{split_scheme, hierarchy}

@@ -1,8 +1,8 @@
 -- Cuts at a delimiter, and joins.
-use Rattle.std.proofs.Common.{◌≡◌, ℕ, arith, Bool, true, false, not, ◌&&◌, ◌||◌, List, [], ◌∷◌, ◌++◌, refl, ◌∙◌}
+use Rattle.std.proofs.Common.{◌≡◌, ℕ, arith, Bool, true, false, not, ◌&&◌, ◌||◌, List, [], ◌∷◌, ◌++◌, refl, ◌∙◌, ◌==◌}
 use Rattle.std.proofs.{lemmas.Grind.{common_steps}, lemmas.List.Splits.{join_with_byte-slice_split}}
 use Rattle.std.proofs.{lemmas.Bool.{and_from, and_parts}, lemmas.List.Folds.{list_all-append}}
-use Rattle.std.specs.{Prelude.{◌==◌}, List.{list_all, join_with_byte, onto_first}, Char.{char_set_contains}}
+use Rattle.std.specs.{List.{list_all, join_with_byte, onto_first}, Char.{char_set_contains}}
 use Rattle.iref_grammar.specs.Rules.{Text}
 pub use Rattle.iref_grammar.specs.Texts.{lacks}
 use Rattle.iref_grammar.specs.Texts.{pieces_at}

@@ -1,10 +1,8 @@
 -- The rules of characters, of bytes: each form of a rule goes over by itself.
-use Rattle.std.proofs.Common.{◌≡◌, ℕ, ◌<◌, ◌≤◌, true, false, List, [], ◌∷◌, ◌++◌, refl, sym, ◌∙◌, ap, subst, arith, inl, inr}
+use Rattle.std.proofs.Common.{◌≡◌, ℕ, ◌<◌, ◌≤◌, true, false, List, [], ◌∷◌, ◌++◌, refl, sym, ◌∙◌, ap, subst, arith, inl, inr, ◌==◌, nat_lt, encode_utf8_all, Option, Some, None, IfSome, true≢false}
 use Rattle.std.proofs.{lemmas.Grind.{common_steps}, Math.Logic.{◌↔◌}, lemmas.Str.{encodes-append}}
 use Rattle.std.proofs.{lemmas.Bool.Decides.{nat_tests, eqb_tells, leb_tells}, lemmas.Bool.{and_from}}
-use Rattle.std.specs.Prelude.{◌==◌, nat_lt, encode_utf8_all, Option, Some, None, IfSome}
 use Rattle.std.specs.{List.{AllByRecursion, concat, list_all}, Str.{all_scalars}, Char.{is_ascii}}
-use mathlib.Core.Bool.{true≢false}
 use Rattle.iref_grammar.specs.Rules.{Text, Rule, Empty, Mark, ◌⨾◌, ◌or◌, Optional, ZeroOrMore, InUtf8}
 use Rattle.iref_grammar.specs.Texts.{part_then, then_part}
 use Rattle.iref_grammar.proofs.{TextLemmas.{lacks}, RuleLemmas.{none_of, one_more}, CutLemmas.{first_lacks, rest_lacks}}

@@ -1,8 +1,7 @@
 -- What is in a grammar is in each with more characters.
-use Rattle.std.proofs.Common.{arith, ◌≡◌, ℕ, Bool, true, false, ◌||◌, List, [], ◌∷◌, refl, sym, inl, inr}
+use Rattle.std.proofs.Common.{arith, ◌≡◌, ℕ, Bool, true, false, ◌||◌, List, [], ◌∷◌, refl, sym, inl, inr, ◌==◌, codes, true≢false}
 use Rattle.std.proofs.{lemmas.Option.{IfSome_then}, lemmas.Bool.{or_right}}
-use Rattle.std.specs.{Prelude.{◌==◌, codes}, List.{AllByRecursion}, Char.{is_ascii_alphanumeric, char_set_contains}}
-use mathlib.Core.Bool.{true≢false}
+use Rattle.std.specs.{List.{AllByRecursion}, Char.{is_ascii_alphanumeric, char_set_contains}}
 use Rattle.iref_grammar.specs.{Characters.{CharTests, AreAboveAscii, uri_chars, uri_above_ascii}, Rules.{Text, InUtf8}}
 use Rattle.iref_grammar.specs.Grammar.{colon, at_sign, is_unreserved, is_sub_delim, is_reg_name_char, is_user_info_char, is_path_char, is_fragment_char, is_query_char, IsEncoded, IsHost, IsSegment}
 use Rattle.iref_grammar.specs.Authority.{AuthorityValue, HasAuthorityParts}

@@ -1,8 +1,8 @@
 -- A reference is one of URIs exactly if it is ASCII, and exactly if the mapping leaves it.
-use Rattle.std.proofs.Common.{◌≡◌, ℕ, Bool, true, false, ◌||◌, List, [], ◌∷◌, map, refl, sym, ◌∙◌, ap, subst, arith, inl, inr}
+use Rattle.std.proofs.Common.{◌≡◌, ℕ, Bool, true, false, ◌||◌, List, [], ◌∷◌, map, refl, sym, ◌∙◌, ap, subst, arith, inl, inr, ◌==◌}
 use Rattle.std.proofs.{lemmas.Grind.{common_steps}, Math.Logic.{◌↔◌}, lemmas.Bool.{and_from, eqb-true}}
 use Rattle.std.proofs.{lemmas.Bool.Decides.{nat_tests, same_from_decides}, lemmas.List.Folds.{list_all-append}}
-use Rattle.std.specs.{Prelude.{◌==◌}, Bool.{Decides}, List.{AllByRecursion, concat, list_all}, Char.{is_ascii}}
+use Rattle.std.specs.{Bool.{Decides}, List.{AllByRecursion, concat, list_all}, Char.{is_ascii}}
 use Rattle.iref_grammar.specs.{Characters.{CharTests, AreAboveAscii, uri_chars, uri_above_ascii}, Rules.{Text, InUtf8}}
 use Rattle.iref_grammar.specs.Grammar.{colon, at_sign, is_reg_name_char, is_user_info_char, is_path_char, is_fragment_char, is_query_char, IsEncoded, IsScheme, IsUserInfo, IsRegName, IsIpLiteral, IsHost, IsPort, IsSegment, IsQuery, IsFragment, IsUri, IsUriReference}
 use Rattle.iref_grammar.specs.Authority.{AuthorityValue, HasAuthorityParts}

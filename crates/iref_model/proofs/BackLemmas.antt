@@ -1,8 +1,7 @@
 -- The items of a normal list, read from the back.
-use Rattle.std.proofs.Common.{arith, ◌≡◌, ℕ, zero, suc, Bool, true, false, cond, ◌&&◌, List, [], ◌∷◌, ◌++◌, map, reverse, refl, sym, ◌∙◌, ap, append_assoc}
+use Rattle.std.proofs.Common.{arith, ◌≡◌, ℕ, zero, suc, Bool, true, false, cond, ◌&&◌, List, [], ◌∷◌, ◌++◌, map, reverse, refl, sym, ◌∙◌, ap, append_assoc, ◌==◌, replicate, codes}
 use Rattle.std.proofs.lemmas.List.{append-nil, reverse-append, replicate_more}
 use Rattle.std.proofs.{lemmas.Grind.{common_steps, reverse_onto}, Math.Bool.{and-false}}
-use Rattle.std.specs.Prelude.{◌==◌, replicate, codes}
 use Rattle.iref_grammar.specs.{Rules.{Text}, Texts.{is_empty}, PathValue.{PathValue, is_one_empty}}
 use Rattle.iref_model.specs.NormalList.{is_dot_dot, is_name, counted, without_lone_empty, normal_segments}
 use Rattle.iref_model.specs.NormalReading.{open_before, staying_before, leading_parents, items}

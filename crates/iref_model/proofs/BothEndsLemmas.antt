@@ -1,7 +1,6 @@
 -- The normal list from both ends.
-use Rattle.std.proofs.Common.{◌≡◌, ℕ, List, [], ◌∷◌, ◌++◌, reverse, refl, arith}
+use Rattle.std.proofs.Common.{◌≡◌, ℕ, List, [], ◌∷◌, ◌++◌, reverse, refl, arith, Option, Some, None}
 use Rattle.std.proofs.lemmas.Grind.{common_steps, reverse_onto}
-use Rattle.std.specs.Prelude.{Option, Some, None}
 use Rattle.iref_grammar.specs.{Rules.{Text}, PathValue.{PathValue}}
 use Rattle.iref_model.specs.NormalList.{normal_segments}
 use Rattle.iref_model.specs.NormalReading.{staying_before, NormalRest, items_left, whole_rest, first_staying, last_staying, first_left, last_left, GivesFirst, GivesLast}

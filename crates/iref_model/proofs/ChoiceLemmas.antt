@@ -1,9 +1,8 @@
 -- The choice among the candidates: it finds one where there is one, and the shortest.
-use Rattle.std.proofs.Common.{arith, ◌≡◌, ℕ, ◌≤◌, Bool, true, false, ◌&&◌, ◌||◌, List, [], ◌∷◌, ◌++◌, length, nat_le, refl, sym, ◌∙◌, ap, Option, Some, None, is_some}
+use Rattle.std.proofs.Common.{arith, ◌≡◌, ℕ, ◌≤◌, Bool, true, false, ◌&&◌, ◌||◌, List, [], ◌∷◌, ◌++◌, length, nat_le, refl, sym, ◌∙◌, ap, Option, Some, None, is_some, true≢false}
 use Rattle.std.proofs.{lemmas.List.Folds.{list_any-append}, lemmas.Bool.{and_from}, lemmas.Bool.Decides.{nat_tests}}
 use Rattle.std.proofs.lemmas.Slice.Eq.{bytes_eq-Decides}
 use Rattle.std.specs.List.{list_any, list_all}
-use mathlib.Core.Bool.{true≢false}
 use Rattle.iref_grammar.specs.Reference.{ReferenceValue, spell}
 use Rattle.iref_model.specs.Resolution.{resolved}
 use Rattle.iref_model.specs.Relativized.{is_exact, only_if, shorter, shortest_exact, candidates, relativized}

@@ -1,8 +1,7 @@
 -- The answer is chosen by tests: which of the candidates is shorter mostly follows from what they leave out.
-use Rattle.std.proofs.Common.{◌≡◌, suc, ◌+◌, ◌<◌, ◌≤◌, nat_lt, Bool, true, false, not, cond, ◌&&◌, ◌||◌, List, [], ◌∷◌, ◌++◌, length, length-append, append_assoc, refl, sym, ◌∙◌, ap, arith, Option, Some, None, is_some}
+use Rattle.std.proofs.Common.{◌≡◌, suc, ◌+◌, ◌<◌, ◌≤◌, nat_lt, Bool, true, false, not, cond, ◌&&◌, ◌||◌, List, [], ◌∷◌, ◌++◌, length, length-append, append_assoc, refl, sym, ◌∙◌, ap, arith, Option, Some, None, is_some, true≢false}
 use Rattle.std.proofs.{lemmas.Bool.{and_parts}, lemmas.Bool.Decides.{nat_tests}, lemmas.Slice.Eq.{bytes_eq-Decides}}
 use Rattle.std.proofs.Math.Bool.{and-false, and-true}
-use mathlib.Core.Bool.{true≢false}
 use Rattle.iref_grammar.specs.{declared.context.PathContext.{PathContext}, Characters.{CharTests}, Rules.{Text}}
 use Rattle.iref_grammar.specs.{Texts.{all_but_last, is_empty}, Authority.{AuthorityValue}}
 use Rattle.iref_grammar.specs.{PathValue.{PathValue, spell_path}, Contexts.{alone, follows_authority}}

@@ -1,8 +1,6 @@
 -- What segments read from the back say of every list that ends in them.
-use Rattle.std.proofs.Common.{arith, ◌≡◌, ℕ, Bool, true, false, cond, ◌&&◌, List, [], ◌∷◌, ◌++◌, map, refl, sym, ◌∙◌, ap, append_assoc}
+use Rattle.std.proofs.Common.{arith, ◌≡◌, ℕ, Bool, true, false, cond, ◌&&◌, List, [], ◌∷◌, ◌++◌, map, refl, sym, ◌∙◌, ap, append_assoc, ◌==◌, true≢false}
 use Rattle.std.proofs.{lemmas.Grind.{common_steps}, lemmas.List.{append-nil}, lemmas.Slice.Eq.{bytes_eq-Decides}}
-use Rattle.std.specs.Prelude.{◌==◌}
-use mathlib.Core.Bool.{true≢false}
 use Rattle.percent_encoding.specs.Percent.{percent_decode}
 use Rattle.percent_encoding.proofs.PercentLemmas.{percent_decode-nil}
 use Rattle.iref_grammar.specs.{Rules.{Text}, Texts.{is_empty}}

@@ -1,8 +1,7 @@
 -- The comparison from the back answers whether paths are equal, and what it has read decides a difference.
-use Rattle.std.proofs.Common.{◌≡◌, ℕ, ◌+◌, ◌-◌, ◌≤◌, Bool, true, false, List, [], ◌∷◌, ◌++◌, map, reverse, length, drop, refl, sym, ◌∙◌, ap, subst, arith}
+use Rattle.std.proofs.Common.{◌≡◌, ℕ, ◌+◌, ◌-◌, ◌≤◌, Bool, true, false, List, [], ◌∷◌, ◌++◌, map, reverse, length, drop, refl, sym, ◌∙◌, ap, subst, arith, Decides, take}
 use Rattle.std.proofs.lemmas.List.{reverse-append, reverse-reverse, length-append, length-reverse, take-append-drop}
 use Rattle.std.proofs.{lemmas.Grind.{common_steps}, Math.Seq.{drop-append_seam}}
-use Rattle.std.specs.Prelude.{Decides, take}
 use mathlib.Core.Bool.{true≢false, beq}
 use Rattle.iref_grammar.specs.{Rules.{Text}, Texts.{is_empty}, PathValue.{PathValue}}
 use Rattle.iref_model.specs.{NormalList.{without_lone_empty, normal_segments}, PathKey.{path_key}}

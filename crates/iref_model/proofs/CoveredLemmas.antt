@@ -1,7 +1,6 @@
 -- Where some readable reference leads to a text, a candidate does, and is not longer.
-use Rattle.std.proofs.Common.{◌≡◌, ◌≢◌, Bool, true, false, ◌&&◌, List, [], ◌∷◌, length, sym, ◌∙◌, ap, subst, Option, Some, None, is_some}
+use Rattle.std.proofs.Common.{◌≡◌, ◌≢◌, Bool, true, false, ◌&&◌, List, [], ◌∷◌, length, sym, ◌∙◌, ap, subst, Option, Some, None, is_some, true≢false}
 use Rattle.std.specs.List.{list_any}
-use mathlib.Core.Bool.{true≢false}
 use Rattle.iref_grammar.specs.{Characters.{CharTests, AreAboveAscii}, Rules.{Text}, Authority.{AuthorityValue}}
 use Rattle.iref_grammar.specs.Contexts.{fits}
 use Rattle.iref_grammar.specs.Reference.{ReferenceValue, context_of, spell, read_reference, is_readable}

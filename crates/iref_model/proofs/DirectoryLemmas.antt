@@ -1,8 +1,8 @@
 -- The directory of a path is its text up to and with the last `/`.
-use Rattle.std.proofs.Common.{◌≡◌, ℕ, ◌+◌, ◌-◌, Bool, true, false, not, cond, List, [], ◌∷◌, ◌++◌, length, take, reverse, refl, sym, ◌∙◌, ap, arith, append_assoc, ◌⊎◌, inl, inr}
+use Rattle.std.proofs.Common.{◌≡◌, ℕ, ◌+◌, ◌-◌, Bool, true, false, not, cond, List, [], ◌∷◌, ◌++◌, length, take, reverse, refl, sym, ◌∙◌, ap, arith, append_assoc, ◌⊎◌, inl, inr, ◌==◌}
 use Rattle.std.proofs.{lemmas.Grind.{common_steps}, lemmas.List.{reverse-append, length-append, length-reverse}}
 use Rattle.std.proofs.{lemmas.Bool.Decides.{eqb_tells}, Math.Seq.{take-append_seam}, lemmas.Bool.{and_from}}
-use Rattle.std.specs.{Prelude.{◌==◌}, List.{list_all, prefix_len, suffix_len}}
+use Rattle.std.specs.List.{list_all, prefix_len, suffix_len}
 use Rattle.iref_grammar.specs.{Rules.{Text}, Grammar.{slash}, Texts.{pieces_at, lacks, all_but_last}}
 use Rattle.iref_grammar.specs.PathValue.{PathValue, segments_of, spell_path, read_path}
 use Rattle.iref_model.specs.{NormalList.{closed}, PathFunctions.{directory, directory_text}}

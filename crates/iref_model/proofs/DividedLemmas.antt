@@ -1,9 +1,7 @@
 -- A base's directory and a list reached from it begin alike; the steps from the one lead to the other.
-use Rattle.std.proofs.Common.{◌≡◌, ℕ, zero, suc, ◌+◌, ◌-◌, ◌≤◌, Bool, true, false, cond, List, [], ◌∷◌, ◌++◌, length, take, drop, refl, sym, ◌∙◌, ap, arith, append_assoc, length-append, inl, inr, take-append-drop}
+use Rattle.std.proofs.Common.{◌≡◌, ℕ, zero, suc, ◌+◌, ◌-◌, ◌≤◌, Bool, true, false, cond, List, [], ◌∷◌, ◌++◌, length, take, drop, refl, sym, ◌∙◌, ap, arith, append_assoc, length-append, inl, inr, take-append-drop, bytes_eq, true≢false}
 use Rattle.std.proofs.{lemmas.Bool.{cases_lt}, lemmas.List.{length-drop, replicate-append-replicate, take-append-le}}
 use Rattle.std.proofs.{lemmas.List.Sums.{common_prefix_len-le}, Math.Seq.{take-append-add}}
-use Rattle.std.specs.Prelude.{bytes_eq}
-use mathlib.Core.Bool.{true≢false}
 use Rattle.iref_grammar.specs.{Rules.{Text}, Texts.{is_empty, all_but_last}, PathValue.{PathValue}}
 use Rattle.iref_model.specs.NormalList.{is_name, staying_names, without_lone_empty, normal_segments, open_parents}
 use Rattle.iref_model.specs.Relative.{last_or_empty}

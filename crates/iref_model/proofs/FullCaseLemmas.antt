@@ -1,8 +1,7 @@
 -- A reference with a scheme or an authority has a candidate that is not longer.
-use Rattle.std.proofs.Common.{◌≡◌, ◌≤◌, Bool, true, false, not, ◌&&◌, List, [], ◌∷◌, length, sym, ◌∙◌, ap, inl, inr, Option, Some, None, is_some}
+use Rattle.std.proofs.Common.{◌≡◌, ◌≤◌, Bool, true, false, not, ◌&&◌, List, [], ◌∷◌, length, sym, ◌∙◌, ap, inl, inr, Option, Some, None, is_some, true≢false}
 use Rattle.std.proofs.lemmas.Bool.{and_parts}
 use Rattle.std.specs.List.{list_any}
-use mathlib.Core.Bool.{true≢false}
 use Rattle.iref_grammar.specs.{declared.context.PathContext.{PathContext}, Rules.{Text}, Grammar.{colon}}
 use Rattle.iref_grammar.specs.{Texts.{all_but_last, part_then}, Authority.{AuthorityValue}, PathValue.{PathValue}}
 use Rattle.iref_grammar.specs.{Contexts.{follows_authority, fits}, Reference.{ReferenceValue, spell}}

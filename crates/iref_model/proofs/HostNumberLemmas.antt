@@ -1,6 +1,5 @@
 -- The hosts of numbers are hosts, and are read as these numbers.
-use Rattle.std.proofs.Common.{◌≡◌, ℕ, ◌^◌, ◌<◌, true, ap, inl, inr, arith}
-use Rattle.std.specs.Prelude.{Some, is_some}
+use Rattle.std.proofs.Common.{◌≡◌, ℕ, ◌^◌, ◌<◌, true, ap, inl, inr, arith, Some, is_some}
 use Rattle.iref_grammar.specs.{Characters.{CharTests, AreAboveAscii}, IpAddresses.{IsIpv4, ipv4_value}}
 use Rattle.iref_grammar.specs.Tests.{is_host, is_ipv4}
 use Rattle.iref_grammar.proofs.Ipv4Lemmas.{ipv4_value-complete}

@@ -1,9 +1,8 @@
 -- The host of an IPv6 number is a host, and is read as this number.
-use Rattle.std.proofs.Common.{◌≡◌, ℕ, zero, suc, ◌+◌, ◌*◌, ◌-◌, ◌/◌, ◌%◌, ◌^◌, ◌<◌, ◌≤◌, ◌++◌, true, false, cond, ◌||◌, List, [], ◌∷◌, length, take, drop, map, replicate, refl, sym, ap, ◌∙◌, subst, inl, inr, ◌⊎◌, ◌≢◌, lit<, lit≤, append_assoc, length-drop, arith}
+use Rattle.std.proofs.Common.{◌≡◌, ℕ, zero, suc, ◌+◌, ◌*◌, ◌-◌, ◌/◌, ◌%◌, ◌^◌, ◌<◌, ◌≤◌, ◌++◌, true, false, cond, ◌||◌, List, [], ◌∷◌, length, take, drop, map, replicate, refl, sym, ap, ◌∙◌, subst, inl, inr, ◌⊎◌, ◌≢◌, lit<, lit≤, append_assoc, length-drop, arith, lt_trans, Some, None, is_some, option_and_then, ◌==◌, nat_le, codes}
 use Rattle.std.proofs.{lemmas.List.{length-take}, lemmas.Fmt.{digits_is_IsNumeral}}
 use Rattle.std.proofs.{lemmas.Bool.Decides.{nat_tests, eqb_tells, leb_tells}, lemmas.Bool.{and_from}}
-use native.Mathlib.Nat.{lt_trans}
-use Rattle.std.specs.{Prelude.{Some, None, is_some, option_and_then, ◌==◌, nat_le, codes}, List.{AllZip, list_all}}
+use Rattle.std.specs.List.{AllZip, list_all}
 use Rattle.std.specs.{Fmt.{digits, digits_onto}, Char.{is_ascii_hexdigit, digit_value}, Str.Parse.{AllDigits}}
 use Rattle.iref_grammar.specs.{Characters.{CharTests}, Rules.{Text}}
 use Rattle.iref_grammar.specs.IpAddresses.{IsGroup, AreGroups, IsFullIpv6, IsShortIpv6, number_of, ipv6_value}

@@ -1,7 +1,7 @@
 -- The names that stay, of lists joined end to end.
-use Rattle.std.proofs.Common.{◌≡◌, ℕ, zero, suc, ◌+◌, ◌-◌, ◌≤◌, Bool, true, false, not, cond, ◌&&◌, List, [], ◌∷◌, ◌++◌, length, take, replicate, refl, sym, ◌∙◌, arith, codes}
+use Rattle.std.proofs.Common.{◌≡◌, ℕ, zero, suc, ◌+◌, ◌-◌, ◌≤◌, Bool, true, false, not, cond, ◌&&◌, List, [], ◌∷◌, ◌++◌, length, take, replicate, refl, sym, ◌∙◌, arith, codes, ◌==◌}
 use Rattle.std.proofs.{lemmas.Grind.{common_steps}, lemmas.Bool.{cases_lt}}
-use Rattle.std.specs.{Prelude.{◌==◌}, List.{list_all}}
+use Rattle.std.specs.List.{list_all}
 use Rattle.iref_grammar.specs.Rules.{Text}
 use Rattle.iref_model.specs.NormalList.{is_name, count_parents, staying_names, open_parents}
 use Rattle.iref_model.proofs.NormalLemmas.{stays_before-is}

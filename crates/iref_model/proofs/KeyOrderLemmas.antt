@@ -1,10 +1,9 @@
 -- Keys of texts, authorities, paths and references: each order is total, and keys that tie are the same.
-use Rattle.std.proofs.Common.{arith, ◌≡◌, ◌↔◌, true, [], ◌∷◌, refl, sym, ◌∙◌, ap, Some, None, Ordering, Less, Equal, Greater, is_eq}
+use Rattle.std.proofs.Common.{arith, ◌≡◌, ◌↔◌, true, [], ◌∷◌, refl, sym, ◌∙◌, ap, Some, None, Ordering, Less, Equal, Greater, is_eq, true≢false}
 use Rattle.std.proofs.{lemmas.Grind.{common_steps}, lemmas.Map.Text.{is_eq-slice_cmp}}
 use Rattle.std.specs.{Option.{option_cmp}, Ordering.{ordering_then}}
 use Rattle.std.specs.Cmp.{IsTotalOrder, on_total, then_total, tied_itself}
 use Rattle.std.specs.Cmp.Lexicographic.{slice_cmp, bytes_decides, nat_list_cmp_total, options_total}
-use mathlib.Core.Bool.{true≢false}
 use Rattle.iref_grammar.specs.{Reference.{ReferenceValue}, Keys.{text_order}}
 use Rattle.iref_model.specs.{AuthorityKey.{authority_key_cmp}, PathKey.{path_key_cmp}, Key.{key_cmp}}
 pub use Rattle.iref_model.specs.AuthorityKey.{authority_keys_total}

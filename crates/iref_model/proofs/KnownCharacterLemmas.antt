@@ -1,8 +1,7 @@
 -- A reference holds characters of ASCII and those that the set adds, so its mapping is that of the RFC's words.
-use Rattle.std.proofs.Common.{◌≡◌, ℕ, Bool, true, false, ◌||◌, List, [], ◌∷◌, ◌++◌, refl, sym, ◌∙◌, ap, subst, arith, inl, inr}
+use Rattle.std.proofs.Common.{◌≡◌, ℕ, Bool, true, false, ◌||◌, List, [], ◌∷◌, ◌++◌, refl, sym, ◌∙◌, ap, subst, arith, inl, inr, ◌==◌, chars, codes, encode_utf8_all, Option, Some, None, option_map, IfSome}
 use Rattle.std.proofs.{lemmas.Grind.{common_steps}, lemmas.Bool.{eqb-true}, lemmas.Bool.Decides.{nat_tests}}
 use Rattle.std.proofs.lemmas.Str.{chars-encodes, encode_ascii}
-use Rattle.std.specs.Prelude.{◌==◌, chars, codes, encode_utf8_all, Option, Some, None, option_map, IfSome}
 use Rattle.std.specs.{List.{AllByRecursion, concat, list_all, join_with_byte}, Char.{is_ascii, encode_utf8}}
 use Rattle.iref_grammar.specs.{Characters.{CharTests, AreAboveAscii}, Rules.{Text, Rule, OneOf, ZeroOrMore, InUtf8}}
 use Rattle.iref_grammar.specs.Grammar.{hash_sign, slash, colon, question_mark, at_sign, is_reg_name_char, is_user_info_char, is_path_char, is_fragment_char, is_query_char, IsEncoded, IsScheme, IsUserInfo, IsRegName, IsHost, IsPort, IsSegment, IsQuery, IsFragment, IsUriReference}

@@ -1,8 +1,6 @@
 -- Tests of both paths tell which candidates lead to the target's text.
-use Rattle.std.proofs.Common.{◌≡◌, ◌≤◌, nat_le, Bool, true, false, not, cond, ◌&&◌, List, [], ◌∷◌, ◌++◌, refl, sym, ◌∙◌, ap, subst, arith, Option, Some, None, is_some, option_map, codes}
+use Rattle.std.proofs.Common.{◌≡◌, ◌≤◌, nat_le, Bool, true, false, not, cond, ◌&&◌, List, [], ◌∷◌, ◌++◌, refl, sym, ◌∙◌, ap, subst, arith, Option, Some, None, is_some, option_map, codes, bytes_eq, true≢false}
 use Rattle.std.proofs.{lemmas.Bool.{and_parts, and_from, leb-true, le-leb}, lemmas.Slice.Eq.{bytes_eq-Decides}}
-use Rattle.std.specs.Prelude.{bytes_eq}
-use mathlib.Core.Bool.{true≢false}
 use Rattle.iref_grammar.specs.{Characters.{CharTests}, Rules.{Text}, Grammar.{colon, hash_sign, question_mark}}
 use Rattle.iref_grammar.specs.Texts.{part_then, then_part, is_empty, all_but_last}
 use Rattle.iref_grammar.specs.{Authority.{AuthorityValue, spell_authority}, PathValue.{PathValue, spell_path}}

@@ -1,7 +1,7 @@
 -- The mapping of the UTF-8 of a character.
-use Rattle.std.proofs.{Common.{◌≡◌, ℕ, Bool, true, false, not, All, [], ◌∷◌, arith}, lemmas.Grind.{common_steps}}
+use Rattle.std.proofs.{Common.{◌≡◌, ℕ, Bool, true, false, not, All, [], ◌∷◌, arith, encode_utf8_all}, lemmas.Grind.{common_steps}}
 use Rattle.std.proofs.{Math.Utf8.{scalar}, lemmas.List.Elements.{All-nil}, lemmas.Bool.{not-true}}
-use Rattle.std.specs.{Prelude.{encode_utf8_all}, List.{list_all, flat_map}, Char.{is_ascii, encode_utf8}}
+use Rattle.std.specs.{List.{list_all, flat_map}, Char.{is_ascii, encode_utf8}}
 use Rattle.std.specs.Str.{all_scalars}
 use Rattle.percent_encoding.specs.Percent.{percent_encode_byte}
 use Rattle.percent_encoding.proofs.PercentLemmas.{IsByte}

@@ -1,11 +1,10 @@
 -- Decoding undoes the mapping.
-use Rattle.std.proofs.Common.{◌≡◌, ℕ, ◌+◌, ◌*◌, ◌<◌, Bool, true, false, ◌&&◌, All, [], ◌∷◌, ◌++◌, refl, sym, ◌∙◌, ap, arith}
+use Rattle.std.proofs.Common.{◌≡◌, ℕ, ◌+◌, ◌*◌, ◌<◌, Bool, true, false, ◌&&◌, All, [], ◌∷◌, ◌++◌, refl, sym, ◌∙◌, ap, arith, ◌==◌, if◌then◌else◌, true≢false}
 use Rattle.std.proofs.{lemmas.Grind.{common_steps}, lemmas.Bool.{and_parts, eqb-true}, lemmas.Bool.Decides.{nat_tests}}
 use Rattle.std.proofs.lemmas.List.Elements.{All-head, All-tail}
-use Rattle.std.specs.{Prelude.{◌==◌, if◌then◌else◌}, Char.{digit_value, is_digit, is_ascii}}
+use Rattle.std.specs.Char.{digit_value, is_digit, is_ascii}
 use Rattle.percent_encoding.specs.Percent.{percent_sign, percent_encode_byte, is_escape, percent_decode, KeepsFirst}
 use Rattle.percent_encoding.proofs.PercentLemmas.{IsByte, percent_decode-percent_encode_byte}
-use mathlib.Core.Bool.{true≢false}
 use Rattle.iref_grammar.specs.Rules.{Text}
 use Rattle.iref_model.specs.Mapping.{mapped}
 use Rattle.iref_model.proofs.MappedLemmas.{mapped-nil, mapped-kept, mapped-escaped}

@@ -1,7 +1,7 @@
 -- Where the components of a mapping stand.
-use Rattle.std.proofs.Common.{arith, ◌≡◌, ℕ, ◌+◌, true, [], ◌∷◌, ◌++◌, length, refl, sym, ◌∙◌, ap, append_assoc}
+use Rattle.std.proofs.Common.{arith, ◌≡◌, ℕ, ◌+◌, true, [], ◌∷◌, ◌++◌, length, refl, sym, ◌∙◌, ap, append_assoc, codes, Option, Some, None, option_map}
 use Rattle.std.proofs.{lemmas.Grind.{common_steps}, lemmas.List.{append-nil, length-append}}
-use Rattle.std.specs.{Prelude.{codes, Option, Some, None, option_map}, List.{list_all}, Char.{is_ascii}}
+use Rattle.std.specs.{List.{list_all}, Char.{is_ascii}}
 use Rattle.iref_grammar.specs.{Characters.{CharTests, AreAboveAscii}, Rules.{Text, InUtf8}}
 use Rattle.iref_grammar.specs.{Grammar.{hash_sign, colon, question_mark, IsUriReference}, Texts.{part_then, then_part}}
 use Rattle.iref_grammar.specs.{Authority.{spell_authority}, PathValue.{spell_path}, Reference.{ReferenceValue, spell}}

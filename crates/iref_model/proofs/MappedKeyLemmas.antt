@@ -1,6 +1,6 @@
 -- The mapping of a readable reference has its key.
-use Rattle.std.proofs.{Common.{arith, ◌≡◌, true, All, List, [], ◌∷◌, map, refl, ap, subst}, lemmas.Grind.{common_steps}}
-use Rattle.std.specs.{Prelude.{Option, Some, None, option_map, IfSome}, Str.{str_to_ascii_lowercase}, List.{list_all}}
+use Rattle.std.proofs.{Common.{arith, ◌≡◌, true, All, List, [], ◌∷◌, map, refl, ap, subst, Option, Some, None, option_map, IfSome}, lemmas.Grind.{common_steps}}
+use Rattle.std.specs.{Str.{str_to_ascii_lowercase}, List.{list_all}}
 use Rattle.percent_encoding.specs.Percent.{percent_decode}
 use Rattle.percent_encoding.proofs.PercentLemmas.{IsByte}
 use Rattle.iref_grammar.specs.{Characters.{CharTests, AreAboveAscii}, Rules.{Text, Rule, InUtf8}}

@@ -1,7 +1,6 @@
 -- The mapping leaves the delimiters of the grammar where they are, and empty texts empty.
-use Rattle.std.proofs.Common.{◌≡◌, ℕ, ◌<◌, true, false, not, ◌&&◌, ◌||◌, List, [], ◌∷◌, ◌++◌, map, refl, ap, arith}
+use Rattle.std.proofs.Common.{◌≡◌, ℕ, ◌<◌, true, false, not, ◌&&◌, ◌||◌, List, [], ◌∷◌, ◌++◌, map, refl, ap, arith, ◌==◌, Option, Some, None, option_map, is_some, if◌then◌else◌}
 use Rattle.std.proofs.{lemmas.Grind.{common_steps}, lemmas.Bool.Decides.{nat_tests}}
-use Rattle.std.specs.Prelude.{◌==◌, Option, Some, None, option_map, is_some, if◌then◌else◌}
 use Rattle.std.specs.{Char.{is_ascii, is_ascii_hexdigit, char_set_contains}, Fmt.{digit_glyph}}
 use Rattle.percent_encoding.specs.Percent.{percent_sign, percent_encode_byte}
 use Rattle.iref_grammar.specs.{declared.context.PathContext.{PathContext}, Rules.{Text}, Grammar.{colon}}

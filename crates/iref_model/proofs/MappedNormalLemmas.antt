@@ -1,8 +1,7 @@
 -- The normal list of a mapped path is the mapped normal list.
-use Rattle.std.proofs.Common.{arith, ◌≡◌, ℕ, zero, suc, ◌/◌, ◌%◌, Bool, true, false, not, ◌&&◌, List, [], ◌∷◌, ◌++◌, map, refl, sym, ◌∙◌, ap}
+use Rattle.std.proofs.Common.{arith, ◌≡◌, ℕ, zero, suc, ◌/◌, ◌%◌, Bool, true, false, not, ◌&&◌, List, [], ◌∷◌, ◌++◌, map, refl, sym, ◌∙◌, ap, ◌==◌, bytes_eq, codes, replicate, if◌then◌else◌}
 use Rattle.std.proofs.{lemmas.Grind.{common_steps}, lemmas.List.{map-append}, lemmas.Bool.{not-true}}
-use Rattle.std.specs.{Prelude.{◌==◌, bytes_eq, codes, replicate, if◌then◌else◌}, List.{list_all}, Char.{is_ascii}}
-use Rattle.std.specs.Fmt.{digit_glyph}
+use Rattle.std.specs.{List.{list_all}, Char.{is_ascii}, Fmt.{digit_glyph}}
 use Rattle.percent_encoding.specs.Percent.{percent_sign, percent_encode_byte}
 use Rattle.iref_grammar.specs.{Rules.{Text}, PathValue.{PathValue, is_one_empty}}
 use Rattle.iref_grammar.proofs.TextLemmas.{first_of_both, second_of_both}

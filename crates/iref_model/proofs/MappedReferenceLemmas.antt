@@ -1,6 +1,6 @@
 -- The mapping of the text of a reference.
-use Rattle.std.proofs.{Common.{arith, ◌≡◌, sym, ◌∙◌, ap}, lemmas.Grind.{common_steps}, Math.Logic.{◌↔◌}}
-use Rattle.std.specs.{Prelude.{Option, Some, None, option_map, IsSome}, Ordering.{is_eq}}
+use Rattle.std.proofs.{Common.{arith, ◌≡◌, sym, ◌∙◌, ap, Option, Some, None, option_map, IsSome}, lemmas.Grind.{common_steps}, Math.Logic.{◌↔◌}}
+use Rattle.std.specs.Ordering.{is_eq}
 use Rattle.iref_grammar.specs.{Characters.{CharTests, AreAboveAscii, uri_chars, uri_above_ascii}, Rules.{Text, InUtf8}}
 use Rattle.iref_grammar.specs.{Grammar.{IsUri, IsUriReference}, Reference.{IsReadable, read_reference, is_reference}}
 use Rattle.iref_grammar.proofs.ReferenceCutLemmas.{read_reference-spelled}

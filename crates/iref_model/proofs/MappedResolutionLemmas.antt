@@ -1,7 +1,7 @@
 -- Resolution commutes with the mapping.
-use Rattle.std.proofs.Common.{arith, ◌≡◌, Bool, true, false, not, ◌&&◌, List, [], ◌∷◌, map, refl, sym, ◌∙◌, ap}
+use Rattle.std.proofs.Common.{arith, ◌≡◌, Bool, true, false, not, ◌&&◌, List, [], ◌∷◌, map, refl, sym, ◌∙◌, ap, codes, option_map, if◌then◌else◌}
 use Rattle.std.proofs.{lemmas.Grind.{common_steps}, lemmas.List.{map-append}}
-use Rattle.std.specs.{Prelude.{codes, option_map, if◌then◌else◌}, Option.{option_or}}
+use Rattle.std.specs.Option.{option_or}
 use Rattle.iref_grammar.specs.{declared.context.PathContext.{PathContext}, Rules.{Text}, Texts.{all_but_last}}
 use Rattle.iref_grammar.specs.{PathValue.{PathValue}, Reference.{ReferenceValue}}
 use Rattle.iref_model.specs.{Guard.{with_dot, made_absolute, dot_where_needed, guarded}, NormalList.{normal}}

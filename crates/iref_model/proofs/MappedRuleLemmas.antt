@@ -1,8 +1,7 @@
 -- The mapping of a text in a rule of IRIs is in the rule of URIs.
-use Rattle.std.proofs.Common.{◌≡◌, ℕ, ◌/◌, ◌%◌, ◌<◌, Bool, true, false, ◌||◌, List, [], ◌∷◌, map, refl, sym, ◌∙◌, ap, subst, arith, inl, inr}
+use Rattle.std.proofs.Common.{◌≡◌, ℕ, ◌/◌, ◌%◌, ◌<◌, Bool, true, false, ◌||◌, List, [], ◌∷◌, map, refl, sym, ◌∙◌, ap, subst, arith, inl, inr, ◌==◌, encode_utf8_all, Option, Some, None, option_map, IfSome}
 use Rattle.std.proofs.{lemmas.Grind.{common_steps}, lemmas.Bool.{and_from, or_right}, lemmas.Bool.Decides.{nat_tests}}
 use Rattle.std.proofs.{lemmas.List.{append-nil}, lemmas.Str.{encode_ascii}}
-use Rattle.std.specs.Prelude.{◌==◌, encode_utf8_all, Option, Some, None, option_map, IfSome}
 use Rattle.std.specs.List.{AllByRecursion, concat, list_all, flat_map}
 use Rattle.std.specs.{Char.{is_ascii, is_ascii_alphabetic, is_ascii_digit, encode_utf8}, Fmt.{digit_glyph}}
 use Rattle.iref_model.proofs.MappedMarkLemmas.{glyph_hex}

@@ -1,7 +1,7 @@
 -- The mapping of a spelling is the spelling of the mapped components.
-use Rattle.std.proofs.Common.{arith, ◌≡◌, ℕ, true, List, [], ◌∷◌, ◌++◌, map, refl, sym, ◌∙◌, ap}
+use Rattle.std.proofs.Common.{arith, ◌≡◌, ℕ, true, List, [], ◌∷◌, ◌++◌, map, refl, sym, ◌∙◌, ap, Option, Some, None, option_map}
 use Rattle.std.proofs.lemmas.Grind.{common_steps}
-use Rattle.std.specs.{Prelude.{Option, Some, None, option_map}, List.{list_all, join_with_byte}, Char.{is_ascii}}
+use Rattle.std.specs.{List.{list_all, join_with_byte}, Char.{is_ascii}}
 use Rattle.iref_grammar.specs.{Rules.{Text}, Texts.{part_then, then_part}, Authority.{AuthorityValue, spell_authority}}
 use Rattle.iref_grammar.specs.{PathValue.{PathValue, spell_path}, Reference.{ReferenceValue, spell}}
 use Rattle.iref_model.specs.Mapping.{mapped, mapped_authority, mapped_path, mapped_reference}

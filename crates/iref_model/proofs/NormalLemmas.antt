@@ -1,8 +1,8 @@
 -- The stretches of a list, by one count from the back.
-use Rattle.std.proofs.Common.{◌≡◌, ℕ, ◌+◌, ◌-◌, ◌≤◌, ◌<◌, max, Bool, true, false, not, cond, ◌&&◌, ◌||◌, List, [], ◌∷◌, map, refl, ◌∙◌, ap, arith, inl, inr}
+use Rattle.std.proofs.Common.{◌≡◌, ℕ, ◌+◌, ◌-◌, ◌≤◌, ◌<◌, max, Bool, true, false, not, cond, ◌&&◌, ◌||◌, List, [], ◌∷◌, map, refl, ◌∙◌, ap, arith, inl, inr, nat_le, ◌==◌, ◌≢◌}
 use Rattle.std.proofs.{lemmas.Grind.{common_steps}, lemmas.List.Sums.{sum_by-cons}}
 use Rattle.std.proofs.lemmas.Bool.Decides.{nat_tests, eqb_tells}
-use Rattle.std.specs.{Prelude.{nat_le, ◌==◌, ◌≢◌}, List.{list_any}}
+use Rattle.std.specs.List.{list_any}
 use Rattle.iref_grammar.specs.{Rules.{Text}, Texts.{beginnings, greatest}}
 use Rattle.iref_model.specs.NormalList.{is_dot, is_dot_dot, is_name, count_parents, count_names, takes_one_name, stays_before, excess, counted, open_parents}
 

@@ -1,6 +1,5 @@
 -- Normal paths where they stand: a guard hides nothing, so to normalize again changes nothing.
-use Rattle.std.proofs.Common.{arith, ◌≡◌, Bool, true, false, cond, List, [], ◌∷◌, ◌++◌, refl, sym, ◌∙◌, ap}
-use Rattle.std.specs.Prelude.{codes}
+use Rattle.std.proofs.Common.{arith, ◌≡◌, Bool, true, false, cond, List, [], ◌∷◌, ◌++◌, refl, sym, ◌∙◌, ap, codes}
 use Rattle.iref_grammar.specs.{declared.context.PathContext.{PathContext}, Rules.{Text}, PathValue.{PathValue}}
 use Rattle.iref_grammar.specs.Contexts.{alone, follows_authority}
 use Rattle.iref_model.specs.Guard.{guarded, made_absolute, dot_where_needed, with_dot}

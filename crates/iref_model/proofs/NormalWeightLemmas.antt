@@ -1,7 +1,6 @@
 -- The normal list of a path is not longer than the path, but for a `/` after some `..`.
-use Rattle.std.proofs.Common.{◌≡◌, ℕ, zero, suc, ◌+◌, ◌-◌, ◌*◌, ◌≤◌, Bool, true, false, cond, ◌&&◌, List, [], ◌∷◌, ◌++◌, length, take, refl, sym, ◌∙◌, ap, arith, ◌⊎◌, inl, inr}
+use Rattle.std.proofs.Common.{◌≡◌, ℕ, zero, suc, ◌+◌, ◌-◌, ◌*◌, ◌≤◌, Bool, true, false, cond, ◌&&◌, List, [], ◌∷◌, ◌++◌, length, take, refl, sym, ◌∙◌, ap, arith, ◌⊎◌, inl, inr, true≢false}
 use Rattle.std.proofs.Math.Bool.{and-false}
-use mathlib.Core.Bool.{true≢false}
 use Rattle.iref_grammar.specs.{declared.context.PathContext.{PathContext}, Rules.{Text}, Texts.{all_but_last}}
 use Rattle.iref_grammar.specs.{PathValue.{PathValue, spell_path, is_one_empty}, Contexts.{fits}}
 use Rattle.iref_model.specs.Guard.{guarded}

@@ -1,8 +1,7 @@
 -- Components are equal, each by its own key, exactly where the keys of their references are the same.
-use Rattle.std.proofs.Common.{arith, ◌≡◌, ◌↔◌, Bool, true, ◌&&◌, sym, ap, ◌∙◌, is_eq}
+use Rattle.std.proofs.Common.{arith, ◌≡◌, ◌↔◌, Bool, true, ◌&&◌, sym, ap, ◌∙◌, is_eq, Option, option_map}
 use Rattle.std.proofs.lemmas.Bool.Decides.{same_from_decides}
-use Rattle.std.specs.{Prelude.{Option, option_map}, Cmp.Lexicographic.{options_total}, Option.{option_cmp, option_eq}}
-use Rattle.std.specs.Str.{str_to_ascii_lowercase}
+use Rattle.std.specs.{Cmp.Lexicographic.{options_total}, Option.{option_cmp, option_eq}, Str.{str_to_ascii_lowercase}}
 use Rattle.percent_encoding.specs.Percent.{percent_decode}
 use Rattle.iref_grammar.specs.{Rules.{Text}, Authority.{read_authority}, PathValue.{read_path}}
 use Rattle.iref_grammar.specs.{ComponentTexts.{read_components}, Keys.{text_order}}

@@ -1,6 +1,6 @@
 -- A reference with neither scheme nor authority has a candidate that is not longer.
-use Rattle.std.proofs.Common.{◌≡◌, ◌≤◌, Bool, true, false, ◌&&◌, List, [], ◌∷◌, ◌++◌, length, refl, sym, ◌∙◌, ap, arith, Option, Some, None, subst}
-use Rattle.std.specs.{Prelude.{bytes_eq}, List.{list_any}}
+use Rattle.std.proofs.Common.{◌≡◌, ◌≤◌, Bool, true, false, ◌&&◌, List, [], ◌∷◌, ◌++◌, length, refl, sym, ◌∙◌, ap, arith, Option, Some, None, subst, bytes_eq}
+use Rattle.std.specs.List.{list_any}
 use Rattle.iref_grammar.specs.{Rules.{Text}, Grammar.{colon}, Texts.{part_then}, PathValue.{PathValue, spell_path}}
 use Rattle.iref_grammar.specs.{Contexts.{alone, follows_authority, fits}, Reference.{ReferenceValue, spell, context_of}}
 use Rattle.iref_model.specs.{Guard.{guarded}, NormalList.{normal, normal_segments, kept_segments}}

@@ -1,6 +1,6 @@
 -- Texts that are in the rules of segments and paths.
-use Rattle.std.proofs.{Common.{arith, ◌≡◌, true, [], ◌∷◌, ◌++◌, refl}, lemmas.Grind.{common_steps}}
-use Rattle.std.specs.{Prelude.{codes}, List.{list_all}, Str.{is_utf8, chars}, Char.{encode_utf8}}
+use Rattle.std.proofs.{Common.{arith, ◌≡◌, true, [], ◌∷◌, ◌++◌, refl, codes}, lemmas.Grind.{common_steps}}
+use Rattle.std.specs.{List.{list_all}, Str.{is_utf8, chars}, Char.{encode_utf8}}
 use Rattle.iref_grammar.specs.{Characters.{CharTests, AreAboveAscii}, Rules.{Text}}
 use Rattle.iref_grammar.specs.{Grammar.{slash, is_path_char, is_user_info_char, is_reg_name_char}, Texts.{pieces_at}}
 use Rattle.iref_grammar.specs.{Tests.{owed_after, is_segment, is_path}, PathValue.{PathValue, read_path}}

@@ -1,6 +1,5 @@
 -- Keys of paths tie exactly if they are the same.
-use Rattle.std.proofs.{Common.{◌≡◌, Bool, is_eq}, lemmas.Bool.Decides.{same_from_decides}}
-use Rattle.std.specs.Prelude.{Decides}
+use Rattle.std.proofs.{Common.{◌≡◌, Bool, is_eq, Decides}, lemmas.Bool.Decides.{same_from_decides}}
 use Rattle.iref_grammar.specs.PathValue.{PathValue}
 use Rattle.iref_model.specs.PathKey.{path_key_cmp}
 use Rattle.iref_model.proofs.KeyOrderLemmas.{path_keys_total, path_keys_separate, tied_exactly}

@@ -1,7 +1,7 @@
 -- The pieces of a text around a delimiter.
-use Rattle.std.proofs.Common.{arith, ◌≡◌, Bool, true, false, cond, List, [], ◌∷◌, ◌++◌, refl, ap}
+use Rattle.std.proofs.Common.{arith, ◌≡◌, Bool, true, false, cond, List, [], ◌∷◌, ◌++◌, refl, ap, ◌==◌, ℕ}
 use Rattle.std.proofs.{lemmas.Bool.{eq-eqb}, lemmas.List.Splits.{slice_split-cons_yes}}
-use Rattle.std.specs.{Prelude.{◌==◌, ℕ}, List.{onto_first}}
+use Rattle.std.specs.List.{onto_first}
 use Rattle.iref_grammar.specs.{Rules.{Text}, Texts.{pieces_at}}
 
 -- one piece at least

@@ -1,7 +1,7 @@
 -- The port of a number is a port, and is read as this number.
-use Rattle.std.proofs.Common.{◌≡◌, ℕ, ◌<◌, ◌^◌, length, true, [], ◌∷◌, refl, arith, rules}
+use Rattle.std.proofs.Common.{◌≡◌, ℕ, ◌<◌, ◌^◌, length, true, [], ◌∷◌, refl, arith, rules, Some}
 use Rattle.std.proofs.{lemmas.Str.Parse.{IsNumeralModel, numerals_by_value}, lemmas.Fmt.{decimal_is_IsNumeral_wide}}
-use Rattle.std.specs.{Prelude.{Some}, Str.Parse.{digits_value}}
+use Rattle.std.specs.Str.Parse.{digits_value}
 use Rattle.iref_grammar.specs.{Rules.{Text}, Tests.{is_port}}
 use Rattle.iref_model.specs.PortNumbers.{port_value, port_text}
 

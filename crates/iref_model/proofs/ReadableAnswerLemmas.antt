@@ -1,9 +1,8 @@
 -- The answer is readable, so what it leads to is what its text leads to.
-use Rattle.std.proofs.Common.{arith, ◌≡◌, ℕ, zero, suc, Bool, true, false, not, cond, ◌&&◌, List, [], ◌∷◌, refl, sym, ◌∙◌, ap, Some, None, is_some, codes}
+use Rattle.std.proofs.Common.{arith, ◌≡◌, ℕ, zero, suc, Bool, true, false, not, cond, ◌&&◌, List, [], ◌∷◌, refl, sym, ◌∙◌, ap, Some, None, is_some, codes, true≢false}
 use Rattle.std.proofs.{lemmas.Grind.{common_steps}, lemmas.Bool.{and_from, and_parts}}
 use Rattle.std.proofs.lemmas.List.Folds.{list_all-append}
 use Rattle.std.specs.List.{list_all}
-use mathlib.Core.Bool.{true≢false}
 use Rattle.iref_grammar.specs.{declared.context.PathContext.{PathContext}, Characters.{CharTests}, Rules.{Text}}
 use Rattle.iref_grammar.specs.{Tests.{is_segment}, Texts.{all_but_last}, PathValue.{PathValue, is_one_empty}}
 use Rattle.iref_grammar.specs.Contexts.{alone, fits, follows_authority, reads_as_path}

@@ -1,7 +1,7 @@
 -- Each step of a reference keeps it readable.
-use Rattle.std.proofs.{Common.{arith, ◌≡◌, true, List, [], refl}, lemmas.Grind.{common_steps}}
+use Rattle.std.proofs.{Common.{arith, ◌≡◌, true, List, [], refl, Option, Some, None, is_some, is_none}, lemmas.Grind.{common_steps}}
 use Rattle.std.proofs.lemmas.Bool.{and_from, and_parts}
-use Rattle.std.specs.{Prelude.{Option, Some, None, is_some, is_none}, List.{list_all}}
+use Rattle.std.specs.List.{list_all}
 use Rattle.iref_grammar.specs.{declared.context.PathContext.{PathContext}, Characters.{CharTests}, Rules.{Text}}
 use Rattle.iref_grammar.specs.Tests.{is_scheme, is_segment, is_query, is_fragment, is_user_info, is_host, is_port, none_or}
 use Rattle.iref_grammar.specs.{Authority.{AuthorityValue, has_authority_parts}, PathValue.{PathValue, spell_path}}

@@ -1,6 +1,5 @@
 -- The relative path of the definition leads where a given one does, and is not longer.
-use Rattle.std.proofs.Common.{◌≡◌, ℕ, zero, suc, ◌+◌, ◌-◌, ◌*◌, ◌≤◌, Bool, true, false, List, [], ◌∷◌, ◌++◌, length, drop, refl, sym, ◌∙◌, ap, arith}
-use mathlib.Core.Bool.{true≢false}
+use Rattle.std.proofs.Common.{◌≡◌, ℕ, zero, suc, ◌+◌, ◌-◌, ◌*◌, ◌≤◌, Bool, true, false, List, [], ◌∷◌, ◌++◌, length, drop, refl, sym, ◌∙◌, ap, arith, true≢false}
 use Rattle.iref_grammar.specs.{Rules.{Text}, Texts.{is_empty}, Contexts.{alone, fits}}
 use Rattle.iref_model.specs.NormalList.{staying_names, normal_segments, without_lone_empty, open_parents}
 use Rattle.iref_model.specs.Relativized.{steps_by_text, shortened}

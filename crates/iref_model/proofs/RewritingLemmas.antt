@@ -1,9 +1,8 @@
 -- `remove_dot_segments` on the text of an absolute path gives the text of its normal path.
-use Rattle.std.proofs.Common.{◌≡◌, ℕ, zero, suc, ◌+◌, ◌≤◌, Bool, true, false, not, ◌||◌, List, [], ◌∷◌, ◌++◌, length, take, refl, sym, ◌∙◌, ap, subst, arith, append_assoc}
+use Rattle.std.proofs.Common.{◌≡◌, ℕ, zero, suc, ◌+◌, ◌≤◌, Bool, true, false, not, ◌||◌, List, [], ◌∷◌, ◌++◌, length, take, refl, sym, ◌∙◌, ap, subst, arith, append_assoc, ◌==◌, codes, bytes_eq, true≢false}
 use Rattle.std.proofs.{lemmas.Grind.{common_steps}, lemmas.List.{append-nil, length-append}}
 use Rattle.std.proofs.lemmas.Slice.Eq.{bytes_eq-Decides}
-use Rattle.std.specs.{Prelude.{◌==◌, codes, bytes_eq}, List.{list_all, join_with_byte}, Char.{char_set_contains}}
-use mathlib.Core.Bool.{true≢false}
+use Rattle.std.specs.{List.{list_all, join_with_byte}, Char.{char_set_contains}}
 use Rattle.iref_grammar.specs.{declared.context.PathContext.{PathContext}, Rules.{Text}, Grammar.{slash}}
 use Rattle.iref_grammar.specs.Texts.{is_empty, before, pieces_at, begins_with, all_but_last}
 use Rattle.iref_grammar.specs.PathValue.{PathValue, spell_path, is_one_empty}

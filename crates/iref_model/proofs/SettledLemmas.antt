@@ -1,7 +1,6 @@
 -- A normal list is its own normal list.
-use Rattle.std.proofs.Common.{◌≡◌, ℕ, Bool, true, false, not, cond, ◌&&◌, List, [], ◌∷◌, ◌++◌, refl, sym, ◌∙◌, ap, arith}
+use Rattle.std.proofs.Common.{◌≡◌, ℕ, Bool, true, false, not, cond, ◌&&◌, List, [], ◌∷◌, ◌++◌, refl, sym, ◌∙◌, ap, arith, true≢false}
 use Rattle.std.proofs.lemmas.Grind.{common_steps}
-use mathlib.Core.Bool.{true≢false}
 use Rattle.iref_grammar.specs.{Rules.{Text}, Texts.{is_empty}, PathValue.{PathValue}}
 use Rattle.iref_model.specs.NormalList.{is_name, staying_names, stays_before, ends_in_dots, closed, without_lone_empty, kept_segments, normal_segments, normal, open_parents}
 use Rattle.iref_model.proofs.NormalLemmas.{excess-is}

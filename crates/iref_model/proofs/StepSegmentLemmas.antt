@@ -1,7 +1,7 @@
 -- Each step of a path has the segments of its path, its arguments, and `.`, `..` and the empty segment.
-use Rattle.std.proofs.Common.{arith, ◌≡◌, ℕ, zero, suc, Bool, true, false, cond, List, [], ◌∷◌, fold, refl}
+use Rattle.std.proofs.Common.{arith, ◌≡◌, ℕ, zero, suc, Bool, true, false, cond, List, [], ◌∷◌, fold, refl, codes, replicate}
 use Rattle.std.proofs.{lemmas.Grind.{common_steps}, lemmas.List.Folds.{list_all-append}, lemmas.Bool.{and_from}}
-use Rattle.std.specs.{Prelude.{codes, replicate}, List.{list_all}}
+use Rattle.std.specs.List.{list_all}
 use Rattle.iref_grammar.specs.{declared.context.PathContext.{PathContext}, Rules.{Text}, Texts.{is_empty, all_but_last}}
 use Rattle.iref_grammar.specs.PathValue.{PathValue, shows_its_list}
 use Rattle.iref_model.specs.{Guard.{guarded, guarded_list, with_dot}, NormalList.{without_lone_empty, normal}}

@@ -1,8 +1,8 @@
 -- The steps from a directory to a normal list: where they lead, and how long they are.
-use Rattle.std.proofs.Common.{◌≡◌, ℕ, suc, ◌+◌, ◌-◌, ◌≤◌, Bool, true, false, cond, List, [], ◌∷◌, ◌++◌, length, take, drop, refl, sym, ◌∙◌, ap, arith, codes, append_assoc, length-append}
+use Rattle.std.proofs.Common.{◌≡◌, ℕ, suc, ◌+◌, ◌-◌, ◌≤◌, Bool, true, false, cond, List, [], ◌∷◌, ◌++◌, length, take, drop, refl, sym, ◌∙◌, ap, arith, codes, append_assoc, length-append, bytes_eq}
 use Rattle.std.proofs.{lemmas.List.{drop-append-le}, lemmas.List.Sums.{common_prefix_len-le}}
 use Rattle.std.proofs.{Math.Seq.{drop-append-add}, Math.Numerals.{one-add}}
-use Rattle.std.specs.{Prelude.{bytes_eq}, List.{common_prefix_len}, Cmp.Lexicographic.{bytes_decides}}
+use Rattle.std.specs.{List.{common_prefix_len}, Cmp.Lexicographic.{bytes_decides}}
 use Rattle.iref_grammar.specs.{Rules.{Text}, Texts.{all_but_last}}
 use Rattle.iref_model.specs.{NormalList.{without_lone_empty, is_name}, Relative.{last_or_empty}}
 use Rattle.iref_model.specs.Relativized.{steps_by_text}

@@ -1,7 +1,7 @@
 -- How long the steps are: not longer than what leads to the same list.
-use Rattle.std.proofs.Common.{◌≡◌, ℕ, zero, suc, ◌+◌, ◌-◌, ◌*◌, ◌≤◌, Bool, true, false, not, cond, ◌&&◌, List, [], ◌∷◌, ◌++◌, length, drop, refl, sym, ◌∙◌, ap, arith, codes}
+use Rattle.std.proofs.Common.{◌≡◌, ℕ, zero, suc, ◌+◌, ◌-◌, ◌*◌, ◌≤◌, Bool, true, false, not, cond, ◌&&◌, List, [], ◌∷◌, ◌++◌, length, drop, refl, sym, ◌∙◌, ap, arith, codes, bytes_eq}
 use Rattle.std.proofs.{lemmas.List.{append-nil}, lemmas.List.Sums.{common_prefix_len-le}}
-use Rattle.std.specs.{Prelude.{bytes_eq}, List.{list_all}}
+use Rattle.std.specs.List.{list_all}
 use Rattle.iref_grammar.specs.{Rules.{Text}, Texts.{is_empty, all_but_last}, PathValue.{is_one_empty}, Contexts.{alone}}
 use Rattle.iref_model.specs.{Guard.{guarded}, NormalList.{is_dot_dot}, Relativized.{is_climb, shortened}}
 use Rattle.iref_model.proofs.{JoinedLemmas.{climbs}, WalkLemmas.{climb-is}}

@@ -1,8 +1,7 @@
 -- Keys tie exactly where they are the same, and tests of parts are true exactly where the keys of the parts are.
-use Rattle.std.proofs.Common.{arith, ◌≡◌, ◌↔◌, Bool, true, ◌&&◌, refl, sym, ap, ◌∙◌, Option, Some, None, is_eq}
+use Rattle.std.proofs.Common.{arith, ◌≡◌, ◌↔◌, Bool, true, ◌&&◌, refl, sym, ap, ◌∙◌, Option, Some, None, is_eq, option_map, is_some, true≢false}
 use Rattle.std.proofs.lemmas.Option.{same_Some}
-use Rattle.std.specs.{Prelude.{option_map, is_some}, Option.{option_eq}, Hash.{HashWrites, option}}
-use mathlib.Core.Bool.{true≢false}
+use Rattle.std.specs.{Option.{option_eq}, Hash.{HashWrites, option}}
 use Rattle.iref_grammar.specs.{Rules.{Text}, Keys.{text_order}, Authority.{AuthorityValue}, PathValue.{PathValue}}
 use Rattle.iref_grammar.specs.Reference.{ReferenceValue}
 use Rattle.iref_grammar.proofs.TextLemmas.{first_of_both, second_of_both}

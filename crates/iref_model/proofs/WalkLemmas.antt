@@ -1,8 +1,7 @@
 -- Where a list of segments leads from a directory: how many `..` it leaves open, and what stays of it.
-use Rattle.std.proofs.Common.{◌≡◌, ℕ, zero, suc, ◌+◌, ◌-◌, Bool, true, false, not, cond, ◌&&◌, List, [], ◌∷◌, ◌++◌, length, refl, sym, ◌∙◌, ap, arith, codes, append_assoc}
+use Rattle.std.proofs.Common.{◌≡◌, ℕ, zero, suc, ◌+◌, ◌-◌, Bool, true, false, not, cond, ◌&&◌, List, [], ◌∷◌, ◌++◌, length, refl, sym, ◌∙◌, ap, arith, codes, append_assoc, true≢false}
 use Rattle.std.proofs.{lemmas.Grind.{common_steps}, lemmas.Bool.{and_parts}}
 use Rattle.std.specs.{List.{list_all}, Cmp.Lexicographic.{bytes_decides}}
-use mathlib.Core.Bool.{true≢false}
 use Rattle.iref_grammar.specs.{Rules.{Text}, Texts.{is_empty, all_but_last}, PathValue.{PathValue, is_one_empty}}
 use Rattle.iref_model.specs.NormalList.{is_dot_dot, staying_names, ends_in_dots, closed, without_lone_empty, normal_segments, open_parents}
 use Rattle.iref_model.specs.{Relative.{last_or_empty}, Relativized.{is_climb, shortened}}

@@ -1,9 +1,8 @@
 -- How long the text of a list of segments is.
-use Rattle.std.proofs.Common.{◌≡◌, ℕ, zero, suc, ◌+◌, ◌-◌, ◌*◌, ◌≤◌, Bool, true, false, not, cond, ◌&&◌, List, [], ◌∷◌, ◌++◌, length, drop, refl, sym, ◌∙◌, ap, arith, codes, length-append, ◌⊎◌, inl, inr}
+use Rattle.std.proofs.Common.{◌≡◌, ℕ, zero, suc, ◌+◌, ◌-◌, ◌*◌, ◌≤◌, Bool, true, false, not, cond, ◌&&◌, List, [], ◌∷◌, ◌++◌, length, drop, refl, sym, ◌∙◌, ap, arith, codes, length-append, ◌⊎◌, inl, inr, ◌==◌, true≢false}
 use Rattle.std.proofs.{lemmas.Grind.{common_steps}, lemmas.Bool.{and_parts}, lemmas.Bool.Decides.{nat_tests}}
 use Rattle.std.proofs.lemmas.List.Folds.{list_all-append}
-use Rattle.std.specs.{Prelude.{◌==◌}, List.{join_with_byte}, Cmp.Lexicographic.{bytes_decides}}
-use mathlib.Core.Bool.{true≢false}
+use Rattle.std.specs.{List.{join_with_byte}, Cmp.Lexicographic.{bytes_decides}}
 use Rattle.iref_grammar.specs.{Rules.{Text}, Grammar.{slash}, Texts.{is_empty}, PathValue.{PathValue, spell_path}}
 use Rattle.iref_model.specs.NormalList.{is_name, is_dot, is_dot_dot, staying_names, stays_before, ends_in_dots, open_parents, counted}
 use Rattle.iref_model.proofs.JoinedLemmas.{staying-cons, climbs, are_names, are_names-staying}

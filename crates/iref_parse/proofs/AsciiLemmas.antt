@@ -1,7 +1,7 @@
 -- The table of ASCII characters, checked entry by entry.
-use Rattle.std.proofs.Common.{◌≡◌, ℕ, zero, suc, ◌<◌, Bool, true, arith, ◌&&◌, ◌||◌, refl, ◌∙◌}
+use Rattle.std.proofs.Common.{◌≡◌, ℕ, zero, suc, ◌<◌, Bool, true, arith, ◌&&◌, ◌||◌, refl, ◌∙◌, ◌==◌, nat_le, codes}
 use Rattle.std.proofs.{lemmas.Bool.{ltb-true}, lemmas.Bool.Decides.{Decides-below_and, nat_tests}}
-use Rattle.std.specs.{Prelude.{◌==◌, nat_le, codes}, List.{slice_index}}
+use Rattle.std.specs.List.{slice_index}
 use Rattle.std.specs.{Char.{is_ascii, is_ascii_alphanumeric, char_set_contains}, Cmp.{booleans_Decides}}
 use mathlib.Core.Bool.{beq}
 use Rattle.iref_parse.specs.declared.ascii.TheConstants.{FIRST_RULES}

@@ -1,9 +1,7 @@
 -- A host alone, and a host with a port, is an authority.
-use Rattle.std.proofs.Common.{◌≡◌, true, ◌&&◌, ◌||◌, [], ◌∷◌, ◌++◌, ◌<◌, ◌≤◌, false, append_assoc, length, get_or, drop, sym, ◌∙◌, ap, arith, refl, cond, Bool, ℕ}
+use Rattle.std.proofs.Common.{◌≡◌, true, ◌&&◌, ◌||◌, [], ◌∷◌, ◌++◌, ◌<◌, ◌≤◌, false, append_assoc, length, get_or, drop, sym, ◌∙◌, ap, arith, refl, cond, Bool, ℕ, Option, Some, None, codes, ◌==◌, true≢false}
 use Rattle.std.proofs.{lemmas.List.{append-nil}, lemmas.Bool.{eqb-true, and_parts}}
-use Rattle.std.specs.{Prelude.{Option, Some, None, codes, ◌==◌}, List.{list_all}}
-use Rattle.std.specs.Char.{char_set_contains, is_ascii_digit}
-use mathlib.Core.Bool.{true≢false}
+use Rattle.std.specs.{List.{list_all}, Char.{char_set_contains, is_ascii_digit}}
 use Rattle.iref_grammar.specs.{Characters.{CharTests, AreAboveAscii}, Rules.{Text}}
 use Rattle.iref_grammar.specs.Grammar.{at_sign, colon, slash, left_bracket, right_bracket}
 use Rattle.iref_grammar.specs.Texts.{after_first_char, begins_with, lacks, before, from_first, after, then_part}

@@ -1,11 +1,10 @@
 -- The common characters, U+00C0 to U+D7FF, and the front of plain bytes and such characters that a text of UTF-8 has.
-use Rattle.std.proofs.Common.{◌≡◌, ℕ, ◌+◌, ◌<◌, ◌≤◌, suc, Bool, true, false, cond, List, [], ◌∷◌, ◌++◌, length, drop, get_or, IsUtf8, refl, sym, ap, subst, ◌∙◌, arith, ⊎_elim}
+use Rattle.std.proofs.Common.{◌≡◌, ℕ, ◌+◌, ◌<◌, ◌≤◌, suc, Bool, true, false, cond, List, [], ◌∷◌, ◌++◌, length, drop, get_or, IsUtf8, refl, sym, ap, subst, ◌∙◌, arith, ⊎_elim, ◌==◌, nat_lt, encode_utf8_all, true≢false}
 use Rattle.std.proofs.{Math.Utf8.{scalar, encode}, lemmas.Bool.{and_parts, and_from, cases_lt, or_cases, or_right}}
 use Rattle.std.proofs.{lemmas.Bool.Decides.{nat_tests}, lemmas.List.Sums.{prefix_len-le-length}}
 use Rattle.std.proofs.lemmas.List.{drop_at, get_or_append_left, length-append, length-drop}
 use Rattle.std.proofs.lemmas.Str.{encode_ascii, length-encode, len_utf8_bounds, IsUtf8-nil}
-use Rattle.std.specs.{Prelude.{◌==◌, nat_lt, encode_utf8_all}, List.{list_all, prefix_len}, Str.{all_scalars}}
-use mathlib.Core.Bool.{true≢false}
+use Rattle.std.specs.{List.{list_all, prefix_len}, Str.{all_scalars}}
 use Rattle.iref_grammar.specs.{Characters.{CharTests, HasCommon, is_common}, Grammar.{percent_sign}, Rules.{Text}}
 use Rattle.iref_parse.specs.Plain.{is_plain_byte, is_of_common, is_common_byte, begins_common}
 use Rattle.iref_parse.specs.Encoded.{are_encoded, is_plain_char, BeginsCommon, StepsTo}

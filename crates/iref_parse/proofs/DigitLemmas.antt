@@ -1,15 +1,12 @@
 -- Octets and groups, as std parses them.
-use Rattle.std.proofs.Common.{◌≡◌, ◌≢◌, ℕ, ◌^◌, ◌<◌, ◌≤◌, zero, suc, true, false, cond, ◌&&◌, [], ◌∷◌, length, get_or, refl, sym, ◌∙◌, ap, subst, arith, lit<}
+use Rattle.std.proofs.Common.{◌≡◌, ◌≢◌, ℕ, ◌^◌, ◌<◌, ◌≤◌, zero, suc, true, false, cond, ◌&&◌, [], ◌∷◌, length, get_or, refl, sym, ◌∙◌, ap, subst, arith, lit<, ◌==◌, nat_lt, nat_le, decimal, slice_index, Option, Some, None, Result, Ok, Err, lt_of_lt_of_le, true≢false}
 use Rattle.std.proofs.{Math.Nat.{pow-le-pow_right}, lemmas.Bool.Decides.{nat_tests}}
 use Rattle.std.proofs.lemmas.Int.Digits.{digits_value-lt}
 use Rattle.std.proofs.lemmas.Fmt.{decimal_is_IsNumeral, decimal_nonempty, decimal_digit, first_decimal, decimal-digits_value}
 use Rattle.std.proofs.lemmas.Str.Parse.{IsNumeralModel, numerals_by_value, tells_digits, digit_at, without_leading_plus_none}
-use Rattle.std.specs.Prelude.{◌==◌, nat_lt, nat_le, decimal, slice_index, Option, Some, None, Result, Ok, Err}
 use Rattle.std.specs.{Result.{result_ok, OkIff}, List.{list_all}, Char.{is_ascii_hexdigit, digit_value}}
 use Rattle.std.specs.Str.Parse.{AllDigits, IsNumeral, ParsesUnsigned, digits_value}
-use native.Mathlib.Nat.{lt_of_lt_of_le}
 use Rattle.iref_grammar.specs.{Rules.{Text}, IpAddresses.{octet_value, group_value}}
-use mathlib.Core.Bool.{true≢false}
 use Rattle.iref_grammar.proofs.TextLemmas.{first_of_both, second_of_both}
 use Rattle.iref_grammar.proofs.Ipv4Lemmas.{octet_text, octet_of_decimal, wide}
 

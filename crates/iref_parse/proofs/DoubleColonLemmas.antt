@@ -1,7 +1,6 @@
 -- An IPv6 address cut at its first `::`.
-use Rattle.std.proofs.Common.{◌≡◌, ℕ, ◌<◌, ◌≤◌, zero, suc, false, cond, List, [], ◌∷◌, ◌++◌, length, take, drop, map, refl, sym, ◌∙◌, ap, arith, inl, inr}
+use Rattle.std.proofs.Common.{◌≡◌, ℕ, ◌<◌, ◌≤◌, zero, suc, false, cond, List, [], ◌∷◌, ◌++◌, length, take, drop, map, refl, sym, ◌∙◌, ap, arith, inl, inr, ◌==◌, codes, Option, Some, None, option_map, option_and_then}
 use Rattle.std.proofs.lemmas.Bool.{false_from_ne_true}
-use Rattle.std.specs.Prelude.{◌==◌, codes, Option, Some, None, option_map, option_and_then}
 use Rattle.std.specs.Str.Pattern.{LacksTextAt, FindsText}
 use Rattle.iref_grammar.specs.{Rules.{Text}, Texts.{begins_with}}
 use Rattle.iref_grammar.specs.IpAddresses.{number_of, group_value, all_some, group_pieces, last_groups_of, eight_groups, short_ipv6_groups, around_double_colon, ipv6_value}

@@ -1,5 +1,5 @@
 -- Texts of characters and escapes: steps over their front, and cuts at delimiters.
-use Rattle.std.proofs.Common.{◌≡◌, ℕ, ◌+◌, ◌-◌, ◌<◌, ◌≤◌, zero, suc, Bool, true, false, not, ◌&&◌, List, [], ◌∷◌, ◌++◌, length, take, drop, get_or, length-append, chars, IsUtf8, refl, sym, ap, subst, ◌∙◌, arith, inl, inr, ⊎_elim}
+use Rattle.std.proofs.Common.{◌≡◌, ℕ, ◌+◌, ◌-◌, ◌<◌, ◌≤◌, zero, suc, Bool, true, false, not, ◌&&◌, List, [], ◌∷◌, ◌++◌, length, take, drop, get_or, length-append, chars, IsUtf8, refl, sym, ap, subst, ◌∙◌, arith, inl, inr, ⊎_elim, ◌==◌, Option, Some, None, nat_lt, encode_utf8_all, if◌then◌else◌, true≢false}
 use Rattle.std.proofs.{Math.Bool.{and-true}, Math.Utf8.{scalar, low_scalar, encode}}
 use Rattle.std.proofs.lemmas.Bool.{and_parts, and_from, cases_lt, false_from_ne_true}
 use Rattle.std.proofs.lemmas.Bool.Decides.{eqb_tells, nat_tests}
@@ -7,10 +7,8 @@ use Rattle.std.proofs.lemmas.List.{get_or-take, length-drop, take-append-drop, t
 use Rattle.std.proofs.lemmas.List.Sums.{list_all-from_AllPass, prefix_len-le-length, prefix_len_passes}
 use Rattle.std.proofs.lemmas.List.Folds.{length-prefix_len}
 use Rattle.std.proofs.lemmas.Str.{encode_ascii, length-encode, len_utf8_bounds, chars_from_encodes, encodes-chars, scalars-chars, is_utf8-from_IsUtf8, IsUtf8-from_is_utf8, IsUtf8-drop, IsUtf8-past_char, IsCharBoundary-after_ascii}
-use Rattle.std.specs.Prelude.{◌==◌, Option, Some, None, nat_lt, encode_utf8_all, if◌then◌else◌}
 use Rattle.std.specs.{List.{list_all, prefix_len}, Str.{all_scalars, IsCharBoundary}}
 use Rattle.std.specs.Char.{is_ascii_hexdigit, char_set_contains}
-use mathlib.Core.Bool.{true≢false}
 use Rattle.iref_grammar.specs.{Grammar.{percent_sign}, Rules.{Text, InUtf8}}
 use Rattle.iref_grammar.specs.{Tests.{owed_after, is_encoded_after, is_encoded}, Texts.{before, from_first}}
 use Rattle.iref_grammar.proofs.CutLemmas.{before-no, before-yes, before-from_first, from_first-no, from_first-yes}

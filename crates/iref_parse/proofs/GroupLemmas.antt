@@ -1,9 +1,8 @@
 -- The numbers that groups of an IPv6 address write.
-use Rattle.std.proofs.Common.{◌≡◌, ◌≢◌, ℕ, ◌+◌, ◌-◌, ◌*◌, ◌^◌, ◌<◌, ◌≤◌, zero, suc, Bool, true, false, cond, List, [], ◌∷◌, ◌++◌, length, map, append_assoc, length-append, refl, sym, ◌∙◌, ap, arith, lit<, ◌⊎◌, ⊎_elim}
+use Rattle.std.proofs.Common.{◌≡◌, ◌≢◌, ℕ, ◌+◌, ◌-◌, ◌*◌, ◌^◌, ◌<◌, ◌≤◌, zero, suc, Bool, true, false, cond, List, [], ◌∷◌, ◌++◌, length, map, append_assoc, length-append, refl, sym, ◌∙◌, ap, arith, lit<, ◌⊎◌, ⊎_elim, ◌==◌, nat_le, fold, replicate, Option, Some, None, option_map, option_and_then, IfSome}
 use Rattle.std.proofs.{Math.Nat.{pow-suc, pow-le-pow_right, mul-le-mul_right, one-le-pow}, lemmas.Nat.{pow-add}}
 use Rattle.std.proofs.{lemmas.Bool.Decides.{nat_tests}, lemmas.List.{length-replicate}, lemmas.List.Sums.{fold-append}}
 use Rattle.std.proofs.lemmas.List.Splits.{slice_split_first}
-use Rattle.std.specs.Prelude.{◌==◌, nat_le, fold, replicate, Option, Some, None, option_map, option_and_then, IfSome}
 use Rattle.std.specs.List.{position_or_len, before_first, after_first}
 use Rattle.iref_grammar.specs.{Rules.{Text}, Texts.{pieces_at, is_empty}}
 use Rattle.iref_grammar.specs.IpAddresses.{number_of, all_some, group_value, one_group, groups_then, eight_groups, joined_groups, filled_groups}

@@ -1,9 +1,8 @@
 -- What ends an IPv4 address, read in one scan.
-use Rattle.std.proofs.Common.{◌≡◌, ℕ, zero, suc, ◌+◌, ◌-◌, ◌*◌, ◌/◌, ◌%◌, ◌<◌, Bool, true, false, not, cond, ◌&&◌, [], ◌∷◌, ◌++◌, append_assoc, refl, sym, ◌∙◌, ap, subst, arith}
+use Rattle.std.proofs.Common.{◌≡◌, ℕ, zero, suc, ◌+◌, ◌-◌, ◌*◌, ◌/◌, ◌%◌, ◌<◌, Bool, true, false, not, cond, ◌&&◌, [], ◌∷◌, ◌++◌, append_assoc, refl, sym, ◌∙◌, ap, subst, arith, ◌==◌, nat_lt, decimal, true≢false}
 use Rattle.std.proofs.{lemmas.Bool.Decides.{nat_tests}, lemmas.Bool.{eqb-true, and_parts}, lemmas.List.{append-nil}}
 use Rattle.std.proofs.lemmas.Fmt.{decimal_digit, decimal_step}
-use Rattle.std.specs.{Prelude.{◌==◌, nat_lt, decimal}, Char.{is_ascii_digit}}
-use mathlib.Core.Bool.{true≢false}
+use Rattle.std.specs.Char.{is_ascii_digit}
 use Rattle.iref_grammar.specs.{Rules.{Text}, IpAddresses.{IsIpv4, number_of}}
 use Rattle.iref_parse.specs.Ipv6Scan.{ends_in_octets}
 

@@ -1,10 +1,8 @@
 -- What is read in one scan is an IPv6 address.
-use Rattle.std.proofs.Common.{◌≡◌, ℕ, ◌+◌, ◌-◌, ◌/◌, ◌%◌, ◌<◌, ◌≤◌, Bool, true, false, cond, ◌&&◌, List, [], ◌∷◌, ◌++◌, length, append_assoc, length-append, refl, sym, ◌∙◌, ap, subst, arith, ◌⊎◌, ⊎_elim, inl, inr}
+use Rattle.std.proofs.Common.{◌≡◌, ℕ, ◌+◌, ◌-◌, ◌/◌, ◌%◌, ◌<◌, ◌≤◌, Bool, true, false, cond, ◌&&◌, List, [], ◌∷◌, ◌++◌, length, append_assoc, length-append, refl, sym, ◌∙◌, ap, subst, arith, ◌⊎◌, ⊎_elim, inl, inr, ◌==◌, nat_lt, codes, is_some, true≢false}
 use Rattle.std.proofs.{lemmas.Bool.Decides.{nat_tests}, lemmas.Bool.{eqb-true, ltb-true, and_from, and_parts, or_cases}}
 use Rattle.std.proofs.{lemmas.List.{append-nil, nil_from_length}, lemmas.List.Folds.{list_all-append}}
-use Rattle.std.specs.{Prelude.{◌==◌, nat_lt, codes, is_some}, List.{list_all, AllZip, join_with_byte}}
-use Rattle.std.specs.{Char.{is_ascii_hexdigit}, Str.Parse.{digits_value}}
-use mathlib.Core.Bool.{true≢false}
+use Rattle.std.specs.{List.{list_all, AllZip, join_with_byte}, Char.{is_ascii_hexdigit}, Str.Parse.{digits_value}}
 use Rattle.iref_grammar.specs.Rules.{Text}
 use Rattle.iref_grammar.specs.IpAddresses.{IsIpv4, IsGroup, AreGroups, AreLastGroups, IsShortIpv6, IsFullIpv6, number_of, filled_groups, ipv6_value}
 use Rattle.iref_grammar.proofs.Ipv6CompleteLemmas.{ipv6_value-complete}

@@ -1,8 +1,8 @@
 -- What the least bytes and the marks of `%` of whole blocks of 16 tell of all bytes before a position.
-use Rattle.std.proofs.Common.{◌≡◌, ℕ, ◌+◌, ◌-◌, ◌<◌, List, true, eqb, cond, length, get_or, replicate, refl, sym, ap, ◌∙◌, arith, bit_and, bit_or, ⊎_elim, Fits, w8}
+use Rattle.std.proofs.Common.{◌≡◌, ℕ, ◌+◌, ◌-◌, ◌<◌, List, true, eqb, cond, length, get_or, replicate, refl, sym, ap, ◌∙◌, arith, bit_and, bit_or, ⊎_elim, Fits, w8, min, nat_lt}
 use Rattle.std.proofs.lemmas.Bool.{agree_below_at, cases_lt, eqb-true, eq-eqb, lt-ltb, ltb-true}
 use Rattle.std.proofs.{lemmas.Nat.{le_or_l, le_or_r}, lemmas.Simd.{get_or-replicate}}
-use Rattle.std.specs.{Prelude.{min, nat_lt}, List.{list_all}}
+use Rattle.std.specs.List.{list_all}
 use Rattle.iref_parse.specs.{Lanes.{HasLanes}, Plain.{is_kept_byte, kept_mark}}
 use Rattle.iref_parse.proofs.{SeenLemmas.{Unmarked, IsZero}, UnescapedLemmas.{marks_at, all_allowed}}
 

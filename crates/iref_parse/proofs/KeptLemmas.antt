@@ -1,8 +1,8 @@
 -- The first bytes of two texts that are the same and are kept where escapes are decoded.
-use Rattle.std.proofs.Common.{◌≡◌, ◌≢◌, ℕ, ◌<◌, ◌≤◌, List, cond, eqb, length, length-take-le, get_or, get_or-take, take, bit_or, sym, ap, ◌∙◌, arith, ⊎_elim}
+use Rattle.std.proofs.Common.{◌≡◌, ◌≢◌, ℕ, ◌<◌, ◌≤◌, List, cond, eqb, length, length-take-le, get_or, get_or-take, take, bit_or, sym, ap, ◌∙◌, arith, ⊎_elim, bit_xor, min}
 use Rattle.std.proofs.lemmas.Bool.{cases_eq, cases_lt, eq-eqb, ne_eqb}
 use Rattle.std.proofs.lemmas.Nat.{and_le_l, and_le_r, le_or_l, le_or_r}
-use Rattle.std.specs.{Prelude.{bit_xor, min}, Int.Bits.{xor_add_and, xor_self}}
+use Rattle.std.specs.Int.Bits.{xor_add_and, xor_self}
 use Rattle.iref_parse.specs.{Kept.{IsKeptFront, end_mark}, Lanes.{IsFirstMarked}}
 
 -- the first n bytes are the same, and none of them is `%`

@@ -1,8 +1,8 @@
 -- What the operations on vectors of 16 bytes hold at each lane.
-use Rattle.std.proofs.Common.{◌≡◌, ℕ, ◌+◌, ◌*◌, ◌/◌, ◌<◌, List, [], ◌∷◌, Bool, false, not, cond, eqb, ◌&&◌, length, take, length-take-le, get_or, get_or-take, map, replicate, refl, sym, ap, ◌∙◌, arith, w8}
+use Rattle.std.proofs.Common.{◌≡◌, ℕ, ◌+◌, ◌*◌, ◌/◌, ◌<◌, List, [], ◌∷◌, Bool, false, not, cond, eqb, ◌&&◌, length, take, length-take-le, get_or, get_or-take, map, replicate, refl, sym, ap, ◌∙◌, arith, w8, min, nat_lt}
 use Rattle.std.proofs.lemmas.Simd.{length-sel_l, get_or-sel_l, length-zip2, get_or-zip2, get_or-replicate, length-swz_l, get_or-swz_l_below, swz_l, SwzOk, SwzOk-from_below, Each1-from_get_or}
 use Rattle.std.proofs.lemmas.Bool.Decides.{nat_tests}
-use Rattle.std.specs.{Prelude.{min, nat_lt}, List.{list_all}, Simd.Lanes.{zip2, sel_l, mask_l}}
+use Rattle.std.specs.{List.{list_all}, Simd.Lanes.{zip2, sel_l, mask_l}}
 use Rattle.iref_parse.specs.Lanes.{HasLanes}
 
 -- an operator on two vectors

@@ -1,7 +1,7 @@
 -- Texts that begin as no IP literal and no address of a future version does.
-use Rattle.std.proofs.Common.{◌≡◌, ◌≢◌, false, [], ◌∷◌, refl, ap, arith, inl, inr, cond}
+use Rattle.std.proofs.Common.{◌≡◌, ◌≢◌, false, [], ◌∷◌, refl, ap, arith, inl, inr, cond, ◌&&◌, Some, None, codes}
 use Rattle.std.proofs.lemmas.Bool.Decides.{eqb_tells, nat_tests}
-use Rattle.std.specs.{Prelude.{◌&&◌, Some, None, codes}, Char.{char_set_contains}}
+use Rattle.std.specs.Char.{char_set_contains}
 use Rattle.iref_grammar.specs.{Rules.{Text}, Grammar.{left_bracket, right_bracket, full_stop}, Texts.{before, after}}
 use Rattle.iref_grammar.specs.Tests.{in_brackets, ends_here, is_ipvfuture, is_future_version, is_future_address}
 

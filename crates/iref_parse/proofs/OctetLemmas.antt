@@ -1,9 +1,7 @@
 -- An IPv4 address read octet by octet.
-use Rattle.std.proofs.Common.{◌≡◌, ◌≢◌, ℕ, suc, ◌<◌, ◌≤◌, Bool, false, cond, List, [], ◌∷◌, length, map, refl, sym, ◌∙◌, ap, subst, arith, lit<}
+use Rattle.std.proofs.Common.{◌≡◌, ◌≢◌, ℕ, suc, ◌<◌, ◌≤◌, Bool, false, cond, List, [], ◌∷◌, length, map, refl, sym, ◌∙◌, ap, subst, arith, lit<, ◌==◌, Option, Some, None, option_map, option_and_then, IfSome, decimal, w32}
 use Rattle.std.proofs.{lemmas.Bool.Decides.{nat_tests}, lemmas.List.Splits.{slice_split_first}}
-use Rattle.std.specs.Prelude.{◌==◌, Option, Some, None, option_map, option_and_then, IfSome, decimal}
 use Rattle.std.specs.{List.{position_or_len, before_first, after_first, join_with_byte}, Int.{from_be_bytes}}
-use mir.Syntax.{w32}
 use Rattle.iref_grammar.specs.{Rules.{Text}, Texts.{pieces_at}}
 use Rattle.iref_grammar.specs.IpAddresses.{number_of, all_some, octet_value, octet_values, four_octets, ipv4_value}
 use Rattle.iref_grammar.proofs.{TextLemmas.{pieces_at-one, join-pieces_at}, SliceLemmas.{pieces_at-whole}}

@@ -1,8 +1,7 @@
 -- The tables of plain bytes, checked entry by entry.
-use Rattle.std.proofs.Common.{◌≡◌, ℕ, ◌+◌, ◌<◌, ◌≤◌, Bool, List, true, false, length, get_or, refl, sym, ◌∙◌, arith, Fits, w8}
+use Rattle.std.proofs.Common.{◌≡◌, ℕ, ◌+◌, ◌<◌, ◌≤◌, Bool, List, true, false, length, get_or, refl, sym, ◌∙◌, arith, Fits, w8, below_more}
 use Rattle.std.proofs.lemmas.Bool.{agree_below_at, eq-eqb, ne_eqb}
 use Rattle.std.proofs.lemmas.List.Sums.{prefix_len_is, prefix_len_passes, prefix_len_stops, prefix_len-le-length}
-use borrow.Author.Count.{below_more}
 use Rattle.std.specs.List.{prefix_len}
 use Rattle.iref_parse.specs.{declared.plain.Groups.{Groups}, declared.plain.TheConstants.{ASCII, COMMON, NAME, PATH}}
 use Rattle.iref_parse.specs.Plain.{is_plain_byte, is_common_byte, is_name_byte, is_path_byte, other_groups, is_in_no_group}

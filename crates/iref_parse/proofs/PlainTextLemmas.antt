@@ -1,11 +1,9 @@
 -- The components of a text of plain bytes, escapes and characters beyond ASCII are in their rules.
-use Rattle.std.proofs.Common.{List, ◌++◌, ◌≡◌, ℕ, ◌<◌, Bool, true, false, not, ◌&&◌, ◌||◌, [], ◌∷◌, length, take, drop, IsUtf8, refl, sym, ◌∙◌, ap, subst, arith, inl, inr, ⊎_elim}
+use Rattle.std.proofs.Common.{List, ◌++◌, ◌≡◌, ℕ, ◌<◌, Bool, true, false, not, ◌&&◌, ◌||◌, [], ◌∷◌, length, take, drop, IsUtf8, refl, sym, ◌∙◌, ap, subst, arith, inl, inr, ⊎_elim, ◌==◌, nat_lt, Option, Some, None, codes, if◌then◌else◌, true≢false}
 use Rattle.std.proofs.lemmas.Bool.{agree_below_at, ltb-true, and_parts, not-true, or_cases, or_left, or_right, false_from_ne_true}
 use Rattle.std.proofs.{lemmas.Bool.Decides.{eqb_tells, nat_tests}, lemmas.List.{take_all}}
-use Rattle.std.specs.Prelude.{◌==◌, nat_lt, Option, Some, None, codes, if◌then◌else◌}
 use Rattle.std.specs.Char.{is_ascii, is_ascii_hexdigit, is_ascii_alphanumeric, char_set_contains}
 use Rattle.std.specs.List.{list_all, position_or_len}
-use mathlib.Core.Bool.{true≢false}
 use Rattle.iref_grammar.specs.{Characters.{CharTests, AreAboveAscii}, Rules.{Text}}
 use Rattle.iref_grammar.specs.Grammar.{colon, at_sign, slash, question_mark, hash_sign, percent_sign, is_not_percent, is_sub_delim, is_reg_name_char, is_user_info_char, is_path_char, is_query_char, is_fragment_char}
 use Rattle.iref_grammar.specs.Texts.{before, from_first, after, after_first_char, begins_with}

@@ -1,9 +1,8 @@
 -- Steps of a scan of characters and escapes.
-use Rattle.std.proofs.Common.{◌≡◌, ℕ, ◌+◌, ◌<◌, Bool, true, false, [], ◌∷◌, ◌++◌, ◌&&◌, length, drop, slice_index, chars, IsUtf8, sym, ap, ◌∙◌, arith, add-one, length-append}
+use Rattle.std.proofs.Common.{◌≡◌, ℕ, ◌+◌, ◌<◌, Bool, true, false, [], ◌∷◌, ◌++◌, ◌&&◌, length, drop, slice_index, chars, IsUtf8, sym, ap, ◌∙◌, arith, add-one, length-append, Option, Some, None, ◌==◌, encode_utf8, if◌then◌else◌}
 use Rattle.std.proofs.{lemmas.Bool.Decides.{nat_tests}, lemmas.List.{nil_from_length}}
 use Rattle.std.proofs.lemmas.Str.{is_utf8-from_IsUtf8, chars_past_char, chars-nil, encode_ascii, length-encode, len_utf8_bounds}
-use Rattle.std.specs.{Prelude.{Option, Some, None, ◌==◌, encode_utf8, if◌then◌else◌}, Borrow.{Bor}}
-use Rattle.std.specs.Char.{is_ascii, is_ascii_hexdigit}
+use Rattle.std.specs.{Borrow.{Bor}, Char.{is_ascii, is_ascii_hexdigit}}
 use Rattle.iref_grammar.specs.{Rules.{Text}, Grammar.{percent_sign, is_not_percent}}
 use Rattle.iref_grammar.specs.Tests.{owed_after, is_encoded_after, is_encoded, ScansTo}
 use Rattle.iref_grammar.proofs.TextLemmas.{first_of_both, second_of_both}

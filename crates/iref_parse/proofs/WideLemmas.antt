@@ -1,7 +1,7 @@
 -- Characters beyond ASCII as their bytes.
-use Rattle.std.proofs.Common.{◌≡◌, ℕ, ◌+◌, ◌<◌, ◌≤◌, ◌/◌, ◌%◌, Bool, true, not, List, [], ◌∷◌, arith}
+use Rattle.std.proofs.Common.{◌≡◌, ℕ, ◌+◌, ◌<◌, ◌≤◌, ◌/◌, ◌%◌, Bool, true, not, List, [], ◌∷◌, arith, nat_lt}
 use Rattle.std.proofs.{Math.Utf8.{encode}, lemmas.Bool.Decides.{nat_tests}}
-use Rattle.std.specs.{Prelude.{nat_lt}, List.{list_all}}
+use Rattle.std.specs.List.{list_all}
 
 pub encode_two : (code first second : ℕ) → 128 ≤ code → code < 2048 → 192 + code / 64 ≡ first → 128 + code % 64 ≡ second → encode code ≡ first ∷ second ∷ []
 unfolding encode

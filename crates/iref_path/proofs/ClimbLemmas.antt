@@ -1,7 +1,7 @@
 -- The `..` of a normal list that is read from its end.
-use Rattle.std.proofs.Common.{◌≡◌, ℕ, zero, suc, ◌+◌, ◌≤◌, Bool, true, false, not, ◌&&◌, nat_lt, List, [], ◌∷◌, ◌++◌, length, drop, refl, ◌∙◌, ap, arith}
+use Rattle.std.proofs.Common.{◌≡◌, ℕ, zero, suc, ◌+◌, ◌≤◌, Bool, true, false, not, ◌&&◌, nat_lt, List, [], ◌∷◌, ◌++◌, length, drop, refl, ◌∙◌, ap, arith, ◌==◌, codes, replicate}
 use Rattle.std.proofs.{lemmas.Grind.{common_steps}, lemmas.Bool.Decides.{nat_tests}, lemmas.List.{append-nil}}
-use Rattle.std.specs.{Prelude.{◌==◌, codes, replicate}, List.{list_all}}
+use Rattle.std.specs.List.{list_all}
 use Rattle.iref_grammar.specs.{Rules.{Text}, Texts.{is_empty}, PathValue.{is_one_empty}}
 use Rattle.iref_model.specs.NormalList.{count_parents, is_dot_dot, kept_segments}
 use Rattle.iref_model.specs.{NormalReading.{leading_parents, open_before, staying_before}, Relative.{last_or_empty}}

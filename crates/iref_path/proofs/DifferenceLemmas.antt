@@ -1,7 +1,7 @@
 -- The order of segments by the first bytes in which their texts differ.
-use Rattle.std.proofs.Common.{◌≡◌, ◌≢◌, ℕ, zero, suc, ◌<◌, ◌≤◌, Bool, true, false, refl, Ordering, List, [], ◌∷◌, drop, get_or, length, sym, ap, ◌∙◌, arith}
+use Rattle.std.proofs.Common.{◌≡◌, ◌≢◌, ℕ, zero, suc, ◌<◌, ◌≤◌, Bool, true, false, refl, Ordering, List, [], ◌∷◌, drop, get_or, length, sym, ap, ◌∙◌, arith, ◌==◌, ◌+◌, Some}
 use Rattle.std.proofs.{lemmas.Bool.Decides.{nat_tests}, lemmas.List.Splits.{slice_split-cons_no, slice_split-cons_yes}}
-use Rattle.std.specs.{Cmp.Lexicographic.{slice_cmp}, Ordering.{nat_cmp}, Prelude.{◌==◌, ◌+◌, Some}}
+use Rattle.std.specs.{Cmp.Lexicographic.{slice_cmp}, Ordering.{nat_cmp}}
 use Rattle.percent_encoding.specs.Percent.{percent_decode}
 use Rattle.percent_encoding.proofs.PercentLemmas.{percent_decode-nil, percent_decode_not_percent}
 use Rattle.iref_grammar.specs.{Grammar.{slash}, Keys.{text_order}, Rules.{Text}, Texts.{pieces_at}}

@@ -1,8 +1,8 @@
 -- The directories that two texts begin with.
-use Rattle.std.proofs.Common.{◌≡◌, ℕ, zero, suc, ◌+◌, ◌<◌, ◌≤◌, List, [], ◌∷◌, ◌++◌, length, take, drop, get_or, get_or-take, add-one, ap, subst, drop-cons, refl, sym, ◌∙◌, arith}
+use Rattle.std.proofs.Common.{◌≡◌, ℕ, zero, suc, ◌+◌, ◌<◌, ◌≤◌, List, [], ◌∷◌, ◌++◌, length, take, drop, get_or, get_or-take, add-one, ap, subst, drop-cons, refl, sym, ◌∙◌, arith, nat_eq}
 use Rattle.std.proofs.{lemmas.Bool.Decides.{nat_tests}, lemmas.List.{length-take-le, take-append-drop}}
 use Rattle.std.proofs.{lemmas.List.Sums.{common_prefix_len-le}, lemmas.Str.{IsCharBoundary-after_ascii}}
-use Rattle.std.specs.{List.{common_prefix_len}, Prelude.{nat_eq}}
+use Rattle.std.specs.List.{common_prefix_len}
 use Rattle.iref_grammar.specs.{Grammar.{slash}, Rules.{Text}, Texts.{pieces_at}}
 use Rattle.iref_model.proofs.{PieceLemmas.{pieces-append}, DirectoryLemmas.{all_but_last-snoc}}
 use Rattle.iref_path.specs.{Pieces.{ShareFront}, Slashes.{IsLastSlash}}

@@ -1,8 +1,8 @@
 -- A list in which no segment begins with a dot is its own normal list.
-use Rattle.std.proofs.Common.{◌≡◌, ℕ, ◌+◌, Bool, true, false, ◌||◌, List, [], ◌∷◌, ◌++◌, length, refl, sym, ap, arith}
+use Rattle.std.proofs.Common.{◌≡◌, ℕ, ◌+◌, Bool, true, false, ◌||◌, List, [], ◌∷◌, ◌++◌, length, refl, sym, ap, arith, Option}
 use Rattle.std.proofs.{lemmas.List.{append-nil}, lemmas.Bool.Decides.{nat_tests}, lemmas.List.Folds.{list_any-append}}
 use Rattle.std.proofs.{lemmas.Slice.Eq.{bytes_eq-Decides}, lemmas.Str.Pattern.{strip_prefix_char}}
-use Rattle.std.specs.{Prelude.{Option}, Option.{unwrap_or}, Borrow.{Bor}, List.{list_any}}
+use Rattle.std.specs.{Option.{unwrap_or}, Borrow.{Bor}, List.{list_any}}
 use Rattle.iref_grammar.specs.{declared.context.PathContext.{PathContext}, Rules.{Text}, Grammar.{slash}}
 use Rattle.iref_grammar.specs.Texts.{all_but_last, pieces_at}
 use Rattle.iref_grammar.specs.PathValue.{PathValue, is_one_empty, read_path, segments_of, spell_path}

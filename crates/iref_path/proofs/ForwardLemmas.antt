@@ -1,9 +1,9 @@
 -- The normal list of segments, written forward.
-use Rattle.std.proofs.Common.{add-one, ◌||◌, length-take, eqb, get_or, get_or-take, ◌<◌, ⊎_elim, ◌≡◌, ℕ, ◌+◌, ◌-◌, true, false, cond, List, [], ◌∷◌, ◌++◌, length, take, drop, refl, sym, ◌∙◌, ap, append_assoc, length-append, arith}
+use Rattle.std.proofs.Common.{add-one, ◌||◌, length-take, eqb, get_or, get_or-take, ◌<◌, ⊎_elim, ◌≡◌, ℕ, ◌+◌, ◌-◌, true, false, cond, List, [], ◌∷◌, ◌++◌, length, take, drop, refl, sym, ◌∙◌, ap, append_assoc, length-append, arith, ◌≢◌}
 use Rattle.std.proofs.{lemmas.Bool.Decides.{nat_tests}, lemmas.Grind.{common_steps}}
 use Rattle.std.proofs.lemmas.List.{append-nil, drop_all, get_or_past, take_all, take_at, drop_at}
 use Rattle.std.proofs.{lemmas.Bool.{and_parts, cases_lt, eqb-true}, Math.Seq.{take-suc}, lemmas.Result.{on_ok_weaker}}
-use Rattle.std.specs.{Prelude.{◌≢◌}, List.{join_with_byte, list_all}}
+use Rattle.std.specs.List.{join_with_byte, list_all}
 use Rattle.iref_grammar.proofs.TextLemmas.{join-pieces_at, lacks-pieces_at, pieces_at-front, pieces_at-join}
 use Rattle.iref_grammar.specs.{declared.context.PathContext.{PathContext}, Rules.{Text}, Grammar.{slash}}
 use Rattle.iref_grammar.specs.PathValue.{PathValue, read_path, segments_of, spell_path}

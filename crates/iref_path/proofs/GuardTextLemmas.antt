@@ -1,6 +1,5 @@
 -- A path with its guard is spelled by what stands before it and its own text.
-use Rattle.std.proofs.Common.{arith, ◌≡◌, Bool, true, false, cond, List, [], ◌∷◌, ◌++◌}
-use Rattle.std.specs.Prelude.{codes, if◌then◌else◌}
+use Rattle.std.proofs.Common.{arith, ◌≡◌, Bool, true, false, cond, List, [], ◌∷◌, ◌++◌, codes, if◌then◌else◌}
 use Rattle.iref_grammar.specs.{declared.context.PathContext.{PathContext}, Rules.{Text}}
 use Rattle.iref_grammar.specs.{PathValue.{PathValue, spell_path, read_path}, Contexts.{fits}}
 use Rattle.iref_grammar.proofs.PathLemmas.{read_path-reads}

@@ -1,7 +1,7 @@
 -- The names that stay of two lists read as one, from the back.
-use Rattle.std.proofs.Common.{append_assoc, ◌≡◌, ℕ, ◌+◌, ◌*◌, ◌≤◌, Bool, cond, List, [], ◌∷◌, ◌++◌, length, Option, Some, None, arith}
+use Rattle.std.proofs.Common.{append_assoc, ◌≡◌, ℕ, ◌+◌, ◌*◌, ◌≤◌, Bool, cond, List, [], ◌∷◌, ◌++◌, length, Option, Some, None, arith, ◌==◌, codes}
 use Rattle.std.proofs.lemmas.List.{append-nil}
-use Rattle.std.specs.{Borrow.{Bor}, Option.{option_or}, Prelude.{◌==◌, codes}}
+use Rattle.std.specs.{Borrow.{Bor}, Option.{option_or}}
 use Rattle.iref_grammar.specs.{Grammar.{slash}, Rules.{Text}, Texts.{all_but_last}, PathValue.{read_path}}
 use Rattle.iref_model.specs.{NormalList.{ends_in_dots}, NormalReading.{open_before, staying_before}}
 use Rattle.iref_model.proofs.{PieceLemmas.{some_piece}, SettledLemmas.{ends-append}}

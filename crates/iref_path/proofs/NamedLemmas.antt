@@ -1,9 +1,9 @@
 -- The normal list of segments among which no `..` is.
-use Rattle.std.proofs.Common.{◌≡◌, ◌+◌, ℕ, Bool, true, false, List, [], ◌∷◌, ◌++◌, append_assoc, length, ap, refl, sym, ◌∙◌, arith, Greater, Less}
+use Rattle.std.proofs.Common.{◌≡◌, ◌+◌, ℕ, Bool, true, false, List, [], ◌∷◌, ◌++◌, append_assoc, length, ap, refl, sym, ◌∙◌, arith, Greater, Less, ◌==◌, if◌then◌else◌}
 use Rattle.std.proofs.{lemmas.Bool.Decides.{nat_tests}, lemmas.List.{map-append}}
 use Rattle.std.proofs.lemmas.List.Splits.{slice_split-cons_no, slice_split-cons_yes}
 use Rattle.std.proofs.lemmas.Slice.Eq.{bytes_eq-Decides}
-use Rattle.std.specs.{Cmp.Lexicographic.{slice_cmp}, List.{list_any}, Prelude.{◌==◌, if◌then◌else◌}}
+use Rattle.std.specs.{Cmp.Lexicographic.{slice_cmp}, List.{list_any}}
 use Rattle.iref_grammar.specs.{Grammar.{slash}, Keys.{text_order}, PathValue.{PathValue}, Rules.{Text}}
 use Rattle.iref_grammar.specs.Texts.{is_empty, pieces_at}
 use Rattle.iref_model.specs.NormalList.{ends_in_dots, is_dot, is_dot_dot, normal_segments, without_lone_empty}

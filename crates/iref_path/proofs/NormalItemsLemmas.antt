@@ -1,10 +1,10 @@
 -- What is left of a normal list that is read from either end.
-use Rattle.std.proofs.Common.{ap, append_assoc, drop, take, subst, inl, inr, min, nat_lt, ◌≡◌, ℕ, zero, suc, ◌+◌, ◌-◌, ◌<◌, ◌≤◌, ◌^◌, Bool, true, false, cond, ◌&&◌, List, [], ◌∷◌, ◌++◌, length, length-append, Option, None, refl, sym, ◌∙◌, arith}
+use Rattle.std.proofs.Common.{ap, append_assoc, drop, take, subst, inl, inr, min, nat_lt, ◌≡◌, ℕ, zero, suc, ◌+◌, ◌-◌, ◌<◌, ◌≤◌, ◌^◌, Bool, true, false, cond, ◌&&◌, List, [], ◌∷◌, ◌++◌, length, length-append, Option, None, refl, sym, ◌∙◌, arith, ◌==◌, replicate, codes}
 use Rattle.std.proofs.{lemmas.Bool.Decides.{nat_tests}, lemmas.Grind.{common_steps}}
 use Rattle.std.proofs.{Math.Seq.{drop-append-add, drop-append_seam, drop-length}, lemmas.Bool.{cases_lt}}
 use Rattle.std.proofs.lemmas.List.{take-append-drop, drop-append-le, drop-drop, drop-replicate, length-drop, length-replicate, replicate-append-replicate, append-nil}
 use Rattle.std.proofs.lemmas.List.Folds.{list_any-append}
-use Rattle.std.specs.{Prelude.{◌==◌, replicate, codes}, List.{list_any}, Borrow.{Bor}}
+use Rattle.std.specs.{List.{list_any}, Borrow.{Bor}}
 use Rattle.iref_path.proofs.NamedLemmas.{none_open}
 use Rattle.iref_grammar.specs.{Rules.{Text}, Texts.{is_empty}, PathValue.{PathValue, is_one_empty}}
 use Rattle.iref_model.specs.NormalList.{is_dot_dot, is_name, ends_in_dots, without_lone_empty, normal_segments}

@@ -1,10 +1,8 @@
 -- What the first and the last delimiters of a path say of it.
-use Rattle.std.proofs.Common.{◌≡◌, ℕ, ◌+◌, ◌<◌, true, false, not, ◌||◌, [], ◌∷◌, ◌++◌, length, get_or, take, drop-cons, refl, sym, ◌∙◌, arith}
+use Rattle.std.proofs.Common.{◌≡◌, ℕ, ◌+◌, ◌<◌, true, false, not, ◌||◌, [], ◌∷◌, ◌++◌, length, get_or, take, drop-cons, refl, sym, ◌∙◌, arith, ◌==◌, ◌≢◌, Some, None, codes, true≢false}
 use Rattle.std.proofs.{lemmas.Bool.Decides.{eqb_tells, nat_tests}, lemmas.Grind.{common_steps}}
 use Rattle.std.proofs.{lemmas.List.{take-append-drop, take_more}, lemmas.List.Elements.{All-head}}
 use Rattle.std.proofs.{lemmas.List.Sums.{suffix_len_is}, lemmas.Str.Pattern.{rfind_char}}
-use Rattle.std.specs.Prelude.{◌==◌, ◌≢◌, Some, None, codes}
-use mathlib.Core.Bool.{true≢false}
 use Rattle.iref_grammar.specs.{Characters.{CharTests, AreAboveAscii}, Rules.{Text}, Grammar.{slash}, Texts.{is_empty}}
 use Rattle.iref_grammar.specs.{PathValue.{PathValue, read_path}, Tests.{is_path}}
 use Rattle.iref_grammar.proofs.PathLemmas.{read_path-reads}

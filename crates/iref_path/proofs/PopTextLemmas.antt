@@ -1,9 +1,8 @@
 -- The texts that a pop leaves.
-use Rattle.std.proofs.Common.{append_assoc, ◌≡◌, ℕ, Bool, true, false, cond, List, [], ◌∷◌, ◌++◌, length, take, refl, sym, arith, ◌+◌}
+use Rattle.std.proofs.Common.{append_assoc, ◌≡◌, ℕ, Bool, true, false, cond, List, [], ◌∷◌, ◌++◌, length, take, refl, sym, arith, ◌+◌, true≢false, ◌==◌, codes, Option, Some, None}
 use Rattle.std.proofs.{lemmas.List.{append-nil}, lemmas.Str.{IsCharBoundary-end}}
-use mathlib.Core.Bool.{true≢false}
 use mir.Val.{bool_byte}
-use Rattle.std.specs.{Prelude.{◌==◌, codes, Option, Some, None}, Borrow.{Bor}}
+use Rattle.std.specs.Borrow.{Bor}
 use Rattle.iref_grammar.specs.{declared.context.PathContext.{PathContext}, Rules.{Text}, Grammar.{slash}}
 use Rattle.iref_grammar.specs.Texts.{is_empty, pieces_at}
 use Rattle.iref_grammar.specs.PathValue.{PathValue, read_path, spell_path, shows_its_list}

@@ -1,7 +1,7 @@
 -- The steps from one text of segments to another: what both begin with does not count.
-use Rattle.std.proofs.Common.{length-append, ◌≡◌, ℕ, ◌+◌, ◌*◌, ◌<◌, true, false, List, [], ◌∷◌, ◌++◌, length, refl, arith, append_assoc}
+use Rattle.std.proofs.Common.{length-append, ◌≡◌, ℕ, ◌+◌, ◌*◌, ◌<◌, true, false, List, [], ◌∷◌, ◌++◌, length, refl, arith, append_assoc, ◌==◌, Bool, codes, count_by, replicate}
 use Rattle.std.proofs.{lemmas.Bool.Decides.{nat_tests}, lemmas.List.Splits.{length-slice_split}}
-use Rattle.std.specs.{Prelude.{◌==◌, Bool, codes, count_by, replicate}, List.{common_prefix_len, join_with_byte}}
+use Rattle.std.specs.List.{common_prefix_len, join_with_byte}
 use Rattle.iref_grammar.specs.{Rules.{Text}, Grammar.{slash}, Texts.{all_but_last, pieces_at}}
 use Rattle.iref_grammar.proofs.TextLemmas.{join-pieces_at}
 use Rattle.iref_model.proofs.{LeadingLemmas.{divided_last}, PieceLemmas.{some_piece}}

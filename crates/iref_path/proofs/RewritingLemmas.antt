@@ -1,9 +1,8 @@
 -- A path that is rewritten over its own bytes.
-use Rattle.std.proofs.Common.{◌≡◌, ℕ, ◌+◌, ◌-◌, ◌<◌, ◌≤◌, Bool, true, false, cond, ◌&&◌, List, [], ◌∷◌, ◌++◌, length, take, drop, refl, sym, ap, append_assoc, length-take, arith, rules}
+use Rattle.std.proofs.Common.{◌≡◌, ℕ, ◌+◌, ◌-◌, ◌<◌, ◌≤◌, Bool, true, false, cond, ◌&&◌, List, [], ◌∷◌, ◌++◌, length, take, drop, refl, sym, ap, append_assoc, length-take, arith, rules, ◌==◌, slice_range, slice_set, codes, true≢false}
 use Rattle.std.proofs.{lemmas.Bool.Decides.{nat_tests}, lemmas.Grind.{common_steps}}
 use Rattle.std.proofs.lemmas.List.{drop-take, drop_all, take_all, take_rest, take-take, places, same_lists, drop-set, length-set}
-use Rattle.std.specs.{Prelude.{◌==◌, slice_range, slice_set, codes}, List.{join_with_byte, copy_within, splice}}
-use mathlib.Core.Bool.{true≢false}
+use Rattle.std.specs.List.{join_with_byte, copy_within, splice}
 use mir.Val.{bool_byte}
 use borrow.Rule.Slice.PartMut.{put_mid}
 use Rattle.memchr.specs.Find.{NoneAfter, Passes, is_byte}

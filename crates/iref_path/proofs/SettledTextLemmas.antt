@@ -1,7 +1,7 @@
 -- A path's text that is compared with the text of its normalized path.
-use Rattle.std.proofs.Common.{◌≡◌, true, false, List, [], ◌∷◌, ◌++◌, Option, Some, refl, sym, ◌∙◌, ap, arith, append_assoc}
+use Rattle.std.proofs.Common.{◌≡◌, true, false, List, [], ◌∷◌, ◌++◌, Option, Some, refl, sym, ◌∙◌, ap, arith, append_assoc, bytes_eq}
 use Rattle.std.proofs.lemmas.Slice.Eq.{bytes_eq-Decides}
-use Rattle.std.specs.{Prelude.{bytes_eq}, List.{join_with_byte}}
+use Rattle.std.specs.List.{join_with_byte}
 use Rattle.iref_grammar.specs.{declared.context.PathContext.{PathContext}, Rules.{Text}, Grammar.{slash}}
 use Rattle.iref_grammar.specs.{Contexts.{fits}, PathValue.{read_path, segments_of, spell_path}}
 use Rattle.iref_grammar.proofs.PathLemmas.{read_path-reads}

@@ -1,13 +1,11 @@
 -- The pieces of a text that is cut at its first or its last slash.
-use Rattle.std.proofs.Common.{◌≡◌, ◌+◌, ◌≤◌, ℕ, true, false, List, [], ◌∷◌, ◌++◌, Option, length, length-drop, get_or, get_or-drop, get_or-take, length-take-le, add-one, ◌-◌, pow-suc, pow_pos, zero, suc, take, drop, drop-cons, ◌^◌, refl, sym, ◌∙◌, ap, arith}
+use Rattle.std.proofs.Common.{◌≡◌, ◌+◌, ◌≤◌, ℕ, true, false, List, [], ◌∷◌, ◌++◌, Option, length, length-drop, get_or, get_or-drop, get_or-take, length-take-le, add-one, ◌-◌, pow-suc, pow_pos, zero, suc, take, drop, drop-cons, ◌^◌, refl, sym, ◌∙◌, ap, arith, Bool, count_by, ◌==◌, ◌≢◌, ◌<◌, Some, None, is_none, option_map, MatchOption}
 use Rattle.std.proofs.{lemmas.Grind.{common_steps}, lemmas.Bool.Decides.{nat_tests}}
 use Rattle.std.proofs.{lemmas.List.{take-append-drop, nil_from_length}, lemmas.List.Elements.{All-from_get_or}}
 use Rattle.std.proofs.{lemmas.List.Splits.{slice_split_none, length-slice_split}, lemmas.List.Sums.{count_by-le-length}}
 use Rattle.std.proofs.{lemmas.Str.Pattern.{NoCharPasses-char, drop_at_char}, lemmas.Str.{IsCharBoundary-after_ascii}}
-use Rattle.std.specs.Char.{char_set_contains}
-use Rattle.std.specs.Prelude.{Bool, count_by, ◌==◌, ◌≢◌, ◌<◌, Some, None, is_none, option_map, MatchOption}
-use Rattle.std.specs.{Borrow.{Bor}, Option.{option_copied}, List.{All, last_or}, Str.{NoCharPasses}}
-use Rattle.std.specs.Str.Pattern.{RFindsChar, SplitsAroundMatch}
+use Rattle.std.specs.{Char.{char_set_contains}, Borrow.{Bor}, Option.{option_copied}, List.{All, last_or}}
+use Rattle.std.specs.{Str.{NoCharPasses}, Str.Pattern.{RFindsChar, SplitsAroundMatch}}
 use Rattle.iref_grammar.specs.{Rules.{Text}, Grammar.{slash}, Texts.{before, after, pieces_at, is_empty}}
 use Rattle.iref_grammar.specs.PathValue.{segments_of, read_path}
 use Rattle.iref_grammar.proofs.CutLemmas.{before-no, from_first-no, before-yes, from_first-yes}

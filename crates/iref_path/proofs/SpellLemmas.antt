@@ -1,9 +1,8 @@
 -- The text of a normal path: what it is made of, and how long it is.
-use Rattle.std.proofs.Common.{append_assoc, length-append, ◌≡◌, ℕ, zero, suc, ◌+◌, ◌-◌, ◌<◌, ◌≤◌, Bool, true, false, ◌||◌, List, [], ◌∷◌, ◌++◌, length, refl, sym, ◌∙◌, ap, arith}
+use Rattle.std.proofs.Common.{append_assoc, length-append, ◌≡◌, ℕ, zero, suc, ◌+◌, ◌-◌, ◌<◌, ◌≤◌, Bool, true, false, ◌||◌, List, [], ◌∷◌, ◌++◌, length, refl, sym, ◌∙◌, ap, arith, ◌==◌, replicate, codes, IsUtf8}
 use Rattle.std.proofs.{lemmas.Grind.{flat_map-append}, lemmas.Bool.Decides.{nat_tests}, lemmas.List.{append-nil}}
 use Rattle.std.proofs.{lemmas.Slice.Eq.{bytes_eq-Decides}, lemmas.Str.{IsUtf8-from_is_utf8}}
-use Rattle.std.specs.{Prelude.{◌==◌, replicate, codes, IsUtf8}, Char.{char_set_contains}}
-use Rattle.std.specs.List.{join_with_byte, list_all, list_any}
+use Rattle.std.specs.{Char.{char_set_contains}, List.{join_with_byte, list_all, list_any}}
 use Rattle.iref_grammar.specs.{Characters.{CharTests, AreAboveAscii}, Rules.{Text}, Grammar.{slash}}
 use Rattle.iref_grammar.specs.{Texts.{all_but_last, lacks}, Tests.{is_path, is_segment}}
 use Rattle.iref_grammar.specs.{declared.context.PathContext.{PathContext}, Contexts.{alone, is_path_in}}

@@ -1,7 +1,7 @@
 -- A normal list that is put on a stack from its end.
-use Rattle.std.proofs.Common.{◌≡◌, ℕ, ◌+◌, ◌<◌, Bool, List, [], ◌∷◌, ◌++◌, length, map, reverse, drop, get_or, ◌∙◌, ap, append_assoc}
+use Rattle.std.proofs.Common.{◌≡◌, ℕ, ◌+◌, ◌<◌, Bool, List, [], ◌∷◌, ◌++◌, length, map, reverse, drop, get_or, ◌∙◌, ap, append_assoc, replicate, codes}
 use Rattle.std.proofs.lemmas.List.{at_drop_more, map-append, reverse-append}
-use Rattle.std.specs.{Prelude.{replicate, codes}, Borrow.{Bor}, List.{join_with_byte}}
+use Rattle.std.specs.{Borrow.{Bor}, List.{join_with_byte}}
 use Rattle.iref_grammar.specs.{Grammar.{slash}, Rules.{Text}}
 use Rattle.iref_model.specs.NormalReading.{closing}
 use Rattle.iref_path.specs.{Spelling.{each_closed}, Pieces.{text_at}, Stacks.{Completes, in_order}}

@@ -1,7 +1,7 @@
 -- The way from the directory of one path to another, up to their common beginning and down.
-use Rattle.std.proofs.Common.{◌≡◌, ◌∙◌, ap, refl, Bool, ◌+◌, ◌-◌, ◌*◌, ◌<◌, ◌≤◌, List, [], ◌∷◌, length, sym, take, arith, length-append}
+use Rattle.std.proofs.Common.{◌≡◌, ◌∙◌, ap, refl, Bool, ◌+◌, ◌-◌, ◌*◌, ◌<◌, ◌≤◌, List, [], ◌∷◌, length, sym, take, arith, length-append, bytes_eq}
 use Rattle.std.proofs.{lemmas.List.{take_at, drop-append-le}, lemmas.List.Sums.{common_prefix_len-le}}
-use Rattle.std.specs.{List.{common_prefix_len}, Prelude.{bytes_eq}}
+use Rattle.std.specs.List.{common_prefix_len}
 use Rattle.iref_grammar.specs.{Rules.{Text}, Texts.{all_but_last}}
 use Rattle.iref_model.specs.{PathSuffix.{same_decoded}, NormalList.{count_parents}}
 use Rattle.iref_model.specs.{Relative.{last_or_empty, steps_between}, Relativized.{steps_by_text}}

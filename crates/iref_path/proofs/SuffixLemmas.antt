@@ -1,8 +1,8 @@
 -- What is left of a path after a prefix: where it is there, and that it is a path.
-use Rattle.std.proofs.Common.{◌≡◌, ℕ, ◌≤◌, true, false, List, [], ◌∷◌, length, take, drop, refl, ap, arith}
+use Rattle.std.proofs.Common.{◌≡◌, ℕ, ◌≤◌, true, false, List, [], ◌∷◌, length, take, drop, refl, ap, arith, ◌==◌, Some}
 use Rattle.std.proofs.{lemmas.Bool.Decides.{nat_tests}, lemmas.List.{take-append-drop}}
 use Rattle.std.proofs.lemmas.List.Sums.{common_prefix_len-le}
-use Rattle.std.specs.{Prelude.{◌==◌, Some}, List.{common_prefix_len}}
+use Rattle.std.specs.List.{common_prefix_len}
 use Rattle.iref_grammar.specs.{Characters.{CharTests, AreAboveAscii}, Contexts.{alone}}
 use Rattle.iref_grammar.specs.{PathValue.{PathValue, read_path, spell_path}, Rules.{Text}, Grammar.{slash}}
 use Rattle.iref_grammar.specs.{Tests.{is_path, is_segment}, Texts.{lacks}}

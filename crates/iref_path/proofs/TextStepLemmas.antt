@@ -1,7 +1,6 @@
 -- The steps from one text of segments to another, whose names are compared as they stand.
-use Rattle.std.proofs.Common.{◌≡◌, ◌≢◌, ℕ, zero, suc, ◌+◌, Bool, true, false, not, cond, ◌&&◌, ◌||◌, List, [], ◌∷◌, ◌++◌, refl, sym, ◌∙◌, ap, arith, append_assoc}
+use Rattle.std.proofs.Common.{◌≡◌, ◌≢◌, ℕ, zero, suc, ◌+◌, Bool, true, false, not, cond, ◌&&◌, ◌||◌, List, [], ◌∷◌, ◌++◌, refl, sym, ◌∙◌, ap, arith, append_assoc, codes, nat_le, replicate}
 use Rattle.std.proofs.{lemmas.Grind.{common_steps}, lemmas.Bool.Decides.{nat_tests}, lemmas.List.{append-nil}}
-use Rattle.std.specs.Prelude.{codes, nat_le, replicate}
 use Rattle.iref_grammar.specs.{Rules.{Text}, Grammar.{slash}, Texts.{all_but_last, is_empty, pieces_at}}
 use Rattle.iref_grammar.specs.{PathValue.{PathValue, is_one_empty, segments_of}, Contexts.{alone}}
 use Rattle.iref_grammar.proofs.TextLemmas.{join-pieces_at}

@@ -1,8 +1,7 @@
 -- The canonical text of a reference is in the rule of the reference, over the characters of URIs, and tells it from those
 -- that are not equal.
-use Rattle.std.proofs.{Common.{◌≡◌, Bool, true, is_eq, sym, ◌∙◌, ap}, Math.Logic.{◌↔◌}}
+use Rattle.std.proofs.{Common.{◌≡◌, Bool, true, is_eq, sym, ◌∙◌, ap, bytes_eq, is_some, Option}, Math.Logic.{◌↔◌}}
 use Rattle.std.proofs.{lemmas.Bool.Decides.{same_from_decides}, lemmas.Slice.Eq.{bytes_eq-Decides}}
-use Rattle.std.specs.Prelude.{bytes_eq, is_some, Option}
 use Rattle.iref_grammar.specs.{Characters.{AreAboveAscii, CharTests, uri_chars}, Rules.{Text}}
 use Rattle.iref_grammar.specs.Reference.{IsReadable, ReferenceValue, is_reference, read_reference}
 use Rattle.iref_grammar.proofs.ReferenceRuleLemmas.{Decides-is_uri_reference}

@@ -1,8 +1,7 @@
 -- Components of a reference, as they are compared, and as they were read from bytes: a URI is a reference with a scheme.
-use Rattle.std.proofs.{Common.{◌≡◌, true, ◌&&◌, ap, is_eq}, lemmas.Bool.Decides.{same_from_decides}}
+use Rattle.std.proofs.{Common.{◌≡◌, true, ◌&&◌, ap, is_eq, Option, is_some}, lemmas.Bool.Decides.{same_from_decides}}
 use Rattle.std.proofs.lemmas.Slice.Eq.{bytes_eq-Decides}
-use Rattle.std.specs.{Option.{option_eq}, Ordering.{eq_by_cmp}, Prelude.{Option, is_some}}
-use Rattle.std.specs.Str.{bytes_eq, str_to_ascii_lowercase}
+use Rattle.std.specs.{Option.{option_eq}, Ordering.{eq_by_cmp}, Str.{bytes_eq, str_to_ascii_lowercase}}
 use Rattle.percent_encoding.specs.Percent.{percent_decode}
 use Rattle.iref_grammar.specs.{Authority.{read_authority}, Characters.{AreAboveAscii, CharTests}}
 use Rattle.iref_grammar.specs.{Grammar.{IsUri, IsUriReference}, Keys.{text_order}, PathValue.{read_path}}

@@ -1,6 +1,5 @@
 -- What a reference resolves to against a URI is a URI.
-use Rattle.std.proofs.{Common.{◌≡◌, true, arith}, lemmas.Result.{IfOk-weaker}}
-use Rattle.std.specs.Prelude.{is_some}
+use Rattle.std.proofs.{Common.{◌≡◌, true, arith, is_some}, lemmas.Result.{IfOk-weaker}}
 use Rattle.iref_grammar.specs.{Characters.{AreAboveAscii, CharTests}, Rules.{Text}}
 use Rattle.iref_grammar.specs.Reference.{ReferenceValue, is_uri, is_readable, is_reference, read_reference}
 use Rattle.iref_grammar.proofs.ComponentLemmas.{reference_if_uri, scheme_if_uri, uri_if_scheme}

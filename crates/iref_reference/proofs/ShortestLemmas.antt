@@ -1,7 +1,5 @@
 -- What is known of the shortest reference that leads to a text.
-use Rattle.std.proofs.{Common.{◌≡◌, ◌≤◌, Bool, true, ap, length, refl, subst, sym, ◌∙◌}, lemmas.Option.{same_Some}}
-use mathlib.Core.Bool.{true≢false}
-use Rattle.std.specs.Prelude.{Option, None, Some, is_some, option_map}
+use Rattle.std.proofs.{Common.{◌≡◌, ◌≤◌, Bool, true, ap, length, refl, subst, sym, ◌∙◌, true≢false, Option, None, Some, is_some, option_map}, lemmas.Option.{same_Some}}
 use Rattle.iref_grammar.specs.{Characters.{AreAboveAscii, CharTests}, Rules.{Text}}
 use Rattle.iref_grammar.specs.ComponentTexts.{ComponentTexts, spell_components}
 use Rattle.iref_grammar.specs.Reference.{ReferenceValue, is_readable, is_reference, read_reference, spell}

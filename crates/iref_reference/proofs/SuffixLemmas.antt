@@ -1,6 +1,5 @@
 -- What is left of a reference after a prefix: where scheme and authority are equal, what is left of its path.
-use Rattle.std.proofs.Common.{◌≡◌, Bool, true, false, ◌&&◌, arith}
-use Rattle.std.specs.Prelude.{Option, Some, None, IsNone, option_map}
+use Rattle.std.proofs.Common.{◌≡◌, Bool, true, false, ◌&&◌, arith, Option, Some, None, IsNone, option_map}
 use Rattle.iref_grammar.specs.{PathValue.{PathValue}, Reference.{ReferenceValue}, Rules.{Text}}
 use Rattle.iref_component.specs.{Components.{text_of}, declared.rule_text.RuleText.{RuleText}, Suffixes.{SpellsSuffix}}
 use Rattle.iref_model.specs.{PathSuffix.{path_suffix}, ReferenceSuffix.{reference_suffix}}

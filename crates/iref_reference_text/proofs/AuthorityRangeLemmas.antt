@@ -1,6 +1,6 @@
 -- The authority of a reference where it stands, and after an edit of it.
-use Rattle.std.proofs.{Common.{◌≡◌, ℕ, ◌+◌, Bool, true, length, sym, ◌∙◌, ap, arith}, lemmas.Grind.{common_steps}}
-use Rattle.std.specs.{Prelude.{Option, Some, is_some, option_map}, List.{splice}, declared.ops.Range.{Range}}
+use Rattle.std.proofs.{Common.{◌≡◌, ℕ, ◌+◌, Bool, true, length, sym, ◌∙◌, ap, arith, Option, Some, is_some, option_map}, lemmas.Grind.{common_steps}}
+use Rattle.std.specs.{List.{splice}, declared.ops.Range.{Range}}
 use Rattle.iref_grammar.specs.{Characters.{CharTests, AreAboveAscii}, Rules.{Text}, Tests.{none_or}}
 use Rattle.iref_grammar.specs.Authority.{AuthorityValue, is_authority, read_authority, spell_authority}
 use Rattle.iref_grammar.specs.ComponentOffsets.{offsets_in, offsets_of, text_at}

@@ -1,8 +1,8 @@
 -- The base of a reference is readable, and its text is a beginning of the whole.
 use Rattle.std.proofs.lemmas.Grind.{common_steps}
-use Rattle.std.proofs.Common.{◌≡◌, ◌+◌, Bool, true, List, [], ◌∷◌, ◌++◌, length, refl, ◌∙◌, ap, append_assoc, arith}
+use Rattle.std.proofs.Common.{◌≡◌, ◌+◌, Bool, true, List, [], ◌∷◌, ◌++◌, length, refl, ◌∙◌, ap, append_assoc, arith, is_some}
 use Rattle.std.proofs.lemmas.List.{append-nil, length-append}
-use Rattle.std.specs.{Prelude.{is_some}, List.{join_with_byte, list_all}, Str.{IsUtf8}}
+use Rattle.std.specs.{List.{join_with_byte, list_all}, Str.{IsUtf8}}
 use Rattle.iref_grammar.specs.{declared.context.PathContext.{PathContext}, Characters.{CharTests, AreAboveAscii}}
 use Rattle.iref_grammar.specs.{Rules.{Text}, Grammar.{hash_sign, question_mark, slash}, Tests.{is_segment}}
 use Rattle.iref_grammar.specs.Texts.{all_but_last, pieces_at, then_part}

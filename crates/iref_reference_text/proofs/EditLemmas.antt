@@ -1,9 +1,8 @@
 -- What an edit leaves is the spelling of the step of the value.
-use Rattle.std.proofs.Common.{◌≡◌, ◌+◌, Bool, true, [], ◌∷◌, ◌++◌, length, rules, sym, ◌∙◌, ap, arith, append_assoc}
+use Rattle.std.proofs.Common.{◌≡◌, ◌+◌, Bool, true, [], ◌∷◌, ◌++◌, length, rules, sym, ◌∙◌, ap, arith, append_assoc, codes, Option, is_some, option_map, Result, Ok, Err, OnOk}
 use Rattle.std.proofs.{lemmas.Grind.{common_steps}, lemmas.Str.{IsCharBoundary-end, IsCharBoundary-start}}
 use Rattle.std.proofs.lemmas.List.{places, same_lists}
-use Rattle.std.specs.{Prelude.{codes, Option, is_some, option_map, Result, Ok, Err, OnOk}, List.{splice}}
-use Rattle.std.specs.Str.{IsCharBoundary}
+use Rattle.std.specs.{List.{splice}, Str.{IsCharBoundary}}
 use Rattle.iref_grammar.proofs.{ReferenceRuleLemmas.{Decides-is_uri_reference}, ReadableLemmas.{readable_read}}
 use Rattle.iref_grammar.proofs.{ReferenceCutLemmas.{read_reference-spelled}, PathTestLemmas.{is_path-segments}}
 use Rattle.iref_grammar.specs.{Characters.{CharTests, AreAboveAscii}, Rules.{Text}}

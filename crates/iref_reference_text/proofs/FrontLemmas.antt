@@ -1,7 +1,7 @@
 -- What stays before a path, and before a reference, where no segment begins with a dot.
-use Rattle.std.proofs.Common.{arith, ◌≡◌, ◌+◌, ◌≤◌, true, false, ◌||◌, List, [], ◌∷◌, ◌++◌, ℕ, drop, length, take, refl, ap, append_assoc}
+use Rattle.std.proofs.Common.{arith, ◌≡◌, ◌+◌, ◌≤◌, true, false, ◌||◌, List, [], ◌∷◌, ◌++◌, ℕ, drop, length, take, refl, ap, append_assoc, ◌≢◌, codes, is_some}
 use Rattle.std.proofs.{lemmas.Grind.{common_steps}, lemmas.List.{append-nil, drop_at}}
-use Rattle.std.specs.{Prelude.{◌≢◌, codes, is_some}, List.{join_with_byte, list_all}}
+use Rattle.std.specs.List.{join_with_byte, list_all}
 use Rattle.iref_grammar.specs.{declared.context.PathContext.{PathContext}, Rules.{Text}}
 use Rattle.iref_grammar.specs.Grammar.{colon, hash_sign, question_mark, slash}
 use Rattle.iref_grammar.specs.Texts.{all_but_last, lacks, part_then, pieces_at, then_part}

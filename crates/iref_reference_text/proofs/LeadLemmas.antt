@@ -1,7 +1,6 @@
 -- What is written before the path where an authority or a scheme comes or goes.
-use Rattle.std.proofs.Common.{◌≡◌, ◌≤◌, Bool, true, false, not, ◌&&◌, ◌||◌, ◌++◌, length, ap, arith, length-append}
+use Rattle.std.proofs.Common.{◌≡◌, ◌≤◌, Bool, true, false, not, ◌&&◌, ◌||◌, ◌++◌, length, ap, arith, length-append, Option, is_some, option_map, codes}
 use Rattle.std.proofs.{lemmas.Bool.{and_from}, lemmas.List.{append-nil}}
-use Rattle.std.specs.Prelude.{Option, is_some, option_map, codes}
 use Rattle.iref_grammar.specs.{declared.context.PathContext.{PathContext}, Characters.{CharTests}, Rules.{Text}}
 use Rattle.iref_grammar.specs.{Tests.{is_scheme}, Texts.{then_part}, Authority.{AuthorityValue, spell_authority}}
 use Rattle.iref_grammar.specs.{PathValue.{PathValue, spell_path}, Contexts.{fits}}

@@ -1,7 +1,6 @@
 -- The offsets of a reference follow from the lengths of its components.
-use Rattle.std.proofs.Common.{◌≡◌, ◌+◌, [], ◌∷◌, length, length-take, refl, ◌∙◌, ap, arith}
+use Rattle.std.proofs.Common.{◌≡◌, ◌+◌, [], ◌∷◌, length, length-take, refl, ◌∙◌, ap, arith, Option, codes}
 use Rattle.std.proofs.lemmas.Grind.{common_steps}
-use Rattle.std.specs.Prelude.{Option, codes}
 use Rattle.iref_grammar.specs.{Rules.{Text}, Grammar.{colon}, Texts.{part_then, then_part}}
 use Rattle.iref_grammar.specs.ComponentTexts.{ComponentTexts, read_components}
 use Rattle.iref_grammar.specs.Reference.{ReferenceValue, context_of, spell, read_reference}

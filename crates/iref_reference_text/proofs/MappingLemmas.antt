@@ -1,6 +1,5 @@
 -- What the rules of references hold of the mapping.
-use Rattle.std.proofs.Common.{◌≡◌, ap, ◌∙◌}
-use Rattle.std.specs.Prelude.{Bool, true, Option}
+use Rattle.std.proofs.Common.{◌≡◌, ap, ◌∙◌, Bool, true, Option}
 use Rattle.iref_grammar.specs.{Characters.{CharTests, AreAboveAscii, uri_chars}, Rules.{Text}}
 use Rattle.iref_grammar.specs.Reference.{read_reference, is_reference}
 use Rattle.iref_model.specs.Mapping.{mapped}

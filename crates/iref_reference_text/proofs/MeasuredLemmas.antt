@@ -1,7 +1,7 @@
 -- The components of what a reference resolves to, as texts.
-use Rattle.std.proofs.Common.{arith, ◌≡◌, Bool, true, false, ◌||◌, [], ◌∷◌, refl, ◌∙◌, ap}
+use Rattle.std.proofs.Common.{arith, ◌≡◌, Bool, true, false, ◌||◌, [], ◌∷◌, refl, ◌∙◌, ap, ◌≢◌, Option, is_some}
 use Rattle.iref_model.proofs.{MappedMarkLemmas.{is_some-map}, PieceLemmas.{some_piece}}
-use Rattle.std.specs.{Prelude.{◌≢◌, Option, is_some}, Borrow.{Bor}, Option.{option_copied, option_or}}
+use Rattle.std.specs.{Borrow.{Bor}, Option.{option_copied, option_or}}
 use Rattle.iref_grammar.specs.{Rules.{Text}, PathValue.{read_path, spell_path}, Contexts.{fits}}
 use Rattle.iref_grammar.specs.Characters.{AreAboveAscii, CharTests}
 use Rattle.iref_grammar.specs.Reference.{ReferenceValue, context_of, is_readable, is_reference, read_reference, spell}

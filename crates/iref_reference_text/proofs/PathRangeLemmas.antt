@@ -1,6 +1,6 @@
 -- The path of a reference where it stands, and after an edit of it.
-use Rattle.std.proofs.Common.{arith, ◌≡◌, ℕ, ◌+◌, Bool, true, not, ◌&&◌, ◌||◌, length, sym, ◌∙◌}
-use Rattle.std.specs.{Prelude.{Option}, List.{splice}, declared.ops.Range.{Range}}
+use Rattle.std.proofs.Common.{arith, ◌≡◌, ℕ, ◌+◌, Bool, true, not, ◌&&◌, ◌||◌, length, sym, ◌∙◌, Option}
+use Rattle.std.specs.{List.{splice}, declared.ops.Range.{Range}}
 use Rattle.iref_grammar.specs.{declared.context.PathContext.{PathContext}, Characters.{CharTests, AreAboveAscii}}
 use Rattle.iref_grammar.specs.{Rules.{Text}, Tests.{is_path}, Texts.{is_empty}, Contexts.{is_path_in}}
 use Rattle.iref_grammar.specs.{PathValue.{PathValue, read_path, spell_path}, ComponentOffsets.{offsets_in, offsets_of}}

@@ -1,8 +1,8 @@
 -- A reference is cut between characters where its components begin and end.
-use Rattle.std.proofs.Common.{◌≡◌, ℕ, ◌+◌, ◌<◌, zero, suc, slice_index, lit<, Bool, true, [], ◌∷◌, ◌++◌, length, take, IsUtf8, rules, refl, sym, ◌∙◌, ap, arith, append_assoc}
+use Rattle.std.proofs.Common.{◌≡◌, ℕ, ◌+◌, ◌<◌, zero, suc, slice_index, lit<, Bool, true, [], ◌∷◌, ◌++◌, length, take, IsUtf8, rules, refl, sym, ◌∙◌, ap, arith, append_assoc, codes, Option, Some, None, IfSome, option_map}
 use Rattle.std.proofs.lemmas.Str.{IsCharBoundary-at_seam, IsUtf8-append, IsUtf8-nil, IsUtf8-from_ascii}
 use Rattle.std.proofs.lemmas.List.{append-nil, length-append, places, same_lists}
-use Rattle.std.specs.{Prelude.{codes, Option, Some, None, IfSome, option_map}, Bool.{Decides}, Str.{IsCharBoundary}}
+use Rattle.std.specs.{Bool.{Decides}, Str.{IsCharBoundary}}
 use Rattle.iref_grammar.specs.{Characters.{CharTests, AreAboveAscii}, Rules.{Text, Rule, InUtf8}}
 use Rattle.iref_grammar.specs.Grammar.{colon, slash, question_mark, hash_sign}
 use Rattle.iref_grammar.specs.{Texts.{before, after, part_then, then_part}, Tests.{none_or}}

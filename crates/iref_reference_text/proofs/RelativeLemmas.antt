@@ -1,6 +1,6 @@
 -- The paths of a target and a base, compared.
-use Rattle.std.proofs.Common.{◌≡◌, Bool, Decides, false, true, List, [], ◌∷◌, ap, arith, refl, subst}
-use Rattle.std.specs.{Prelude.{Option, codes, is_none, map}, Borrow.{Bor}, Option.{option_copied}}
+use Rattle.std.proofs.Common.{◌≡◌, Bool, Decides, false, true, List, [], ◌∷◌, ap, arith, refl, subst, Option, codes, is_none, map}
+use Rattle.std.specs.{Borrow.{Bor}, Option.{option_copied}}
 use Rattle.percent_encoding.specs.Percent.{percent_decode}
 use Rattle.iref_grammar.specs.{Rules.{Text}, PathValue.{PathValue, read_path}, Texts.{is_empty}}
 use Rattle.iref_grammar.specs.ComponentTexts.{ComponentTexts, read_components}

@@ -1,6 +1,5 @@
 -- What the row of a reference says of it.
-use Rattle.std.proofs.Common.{◌≡◌, false, true, ◌||◌, [], arith}
-use Rattle.std.specs.Prelude.{◌≢◌, is_some}
+use Rattle.std.proofs.Common.{◌≡◌, false, true, ◌||◌, [], arith, ◌≢◌, is_some}
 use Rattle.iref_grammar.proofs.ComponentLemmas.{is_some-copied}
 use Rattle.iref_grammar.specs.{ComponentTexts.{ComponentTexts}, PathValue.{read_path}}
 use Rattle.iref_path.proofs.PathTextLemmas.{nothing, something}

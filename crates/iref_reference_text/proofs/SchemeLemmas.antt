@@ -1,6 +1,5 @@
 -- A scheme and its delimiter are a reference, in each rule that allows the scheme.
-use Rattle.std.proofs.{Common.{◌≡◌, Bool, true, false, [], ◌∷◌, ◌++◌, refl, sym}, lemmas.List.{append-nil}}
-use Rattle.std.specs.Prelude.{Option, Some, None}
+use Rattle.std.proofs.{Common.{◌≡◌, Bool, true, false, [], ◌∷◌, ◌++◌, refl, sym, Option, Some, None}, lemmas.List.{append-nil}}
 use Rattle.iref_grammar.specs.{Characters.{CharTests, AreAboveAscii}, Rules.{Text}, Grammar.{colon}, Tests.{is_scheme}}
 use Rattle.iref_grammar.specs.{PathValue.{spell_path}, Reference.{ReferenceValue, spell, read_reference, is_reference}}
 use Rattle.iref_grammar.proofs.ReadablePartsLemmas.{readable_from}

@@ -1,8 +1,7 @@
 -- What a target and a base have in common, and the shortest reference by that.
-use Rattle.std.proofs.Common.{◌≡◌, ℕ, Bool, true, false, ◌&&◌, [], ◌∷◌, ◌++◌, length, ap, refl, sym, ◌∙◌}
+use Rattle.std.proofs.Common.{◌≡◌, ℕ, Bool, true, false, ◌&&◌, [], ◌∷◌, ◌++◌, length, ap, refl, sym, ◌∙◌, Option, None, Some, bytes_eq, codes, if◌then◌else◌, is_some, nat_lt, option_map}
 use Rattle.std.proofs.{lemmas.Bool.Decides.{same_from_decides}, lemmas.List.{append_cancel_left, append_cancel_right}}
 use Rattle.std.proofs.lemmas.Slice.Eq.{bytes_eq-Decides}
-use Rattle.std.specs.Prelude.{Option, None, Some, bytes_eq, codes, if◌then◌else◌, is_some, nat_lt, option_map}
 use Rattle.std.specs.{Borrow.{Bor}, Option.{option_copied, option_eq}}
 use Rattle.iref_grammar.specs.{Rules.{Text}, Grammar.{colon, question_mark}, Texts.{part_then, then_part}}
 use Rattle.iref_grammar.specs.{Authority.{read_authority, spell_authority}, PathValue.{read_path, spell_path}}

@@ -1,6 +1,6 @@
 -- Where the authority of a reference stands, and the text with another one.
-use Rattle.std.specs.{Prelude.{ℕ, ◌≡◌, ◌≤◌, ◌+◌, true, Some, IfSome, length}, declared.ops.Range.{Range}}
-use Rattle.std.proofs.{Common.{subst}, Props.{props}}
+use Rattle.std.specs.declared.ops.Range.{Range}
+use Rattle.std.proofs.{Common.{subst, ℕ, ◌≡◌, ◌≤◌, ◌+◌, true, Some, IfSome, length}, Props.{props}}
 use Rattle.iref_grammar.specs.{Characters.{CharTests}, Rules.{Text}, Reference.{is_reference, read_reference}}
 use Rattle.iref_grammar.specs.ComponentOffsets.{authority_mark, offsets_of, text_at}
 use Rattle.iref_grammar.proofs.RangeLemmas.{IsInside, authority_inside}

@@ -1,8 +1,8 @@
 -- What a hasher reads of a text without the byte 255 determines the text, and where it ends.
-use Rattle.std.proofs.Common.{◌≡◌, ℕ, zero, suc, ◌+◌, ◌-◌, ◌<◌, ◌≤◌, Bool, true, false, not, ◌&&◌, ◌==◌, List, [], ◌∷◌, ◌++◌, length, take, drop, refl, sym, ◌∙◌, ap, arith, append_assoc, length-append, length-take-le, length-drop, take-append-drop}
+use Rattle.std.proofs.Common.{◌≡◌, ℕ, zero, suc, ◌+◌, ◌-◌, ◌<◌, ◌≤◌, Bool, true, false, not, ◌&&◌, ◌==◌, List, [], ◌∷◌, ◌++◌, length, take, drop, refl, sym, ◌∙◌, ap, arith, append_assoc, length-append, length-take-le, length-drop, take-append-drop, nat_le}
 use Rattle.std.proofs.{lemmas.Bool.{and_parts}, lemmas.Bool.Decides.{nat_tests}, lemmas.Grind.{common_steps}}
 use Rattle.std.proofs.{lemmas.List.{append-nil}, lemmas.List.Folds.{concat-append, list_all-append}}
-use Rattle.std.specs.{Hash.{HashWrites}, List.{concat, list_all}, Prelude.{nat_le}}
+use Rattle.std.specs.{Hash.{HashWrites}, List.{concat, list_all}}
 use Rattle.iref_grammar.specs.Rules.{Text}
 use Rattle.iref_splice.specs.Fed.{fed_text, full_piece, is_unended, IsSelfDelimiting, next_piece, waiting_after, written_after}
 use Rattle.iref_splice.proofs.FedLemmas.{waiting-fits, written-fits, waiting-cut, written-cut}

@@ -1,7 +1,6 @@
 -- A text after a change between characters is text.
-use Rattle.std.proofs.Common.{◌≡◌, Bool, true, false, cond, ◌++◌, take, drop, IsUtf8, OnOk, OnErr, sym, subst}
+use Rattle.std.proofs.Common.{◌≡◌, Bool, true, false, cond, ◌++◌, take, drop, IsUtf8, OnOk, OnErr, sym, subst, Result, Ok, Err}
 use Rattle.std.proofs.lemmas.Str.{IsUtf8-append, IsUtf8-drop, IsUtf8-take}
-use Rattle.std.specs.Prelude.{Result, Ok, Err}
 use Rattle.iref_grammar.specs.Rules.{Text}
 use Rattle.iref_splice.specs.{declared.change.Change.{Change}, Changes.{IsWithin, changed, pieces}}
 

@@ -1,7 +1,6 @@
 -- What takes a text from its end: nothing changes it, and one piece before another is one piece.
-use Rattle.std.proofs.Common.{◌≡◌, ℕ, ◌+◌, [], ◌∷◌, ◌++◌, length, refl, sym, ◌∙◌, ap, arith, append_assoc, length-append, take-append-drop}
+use Rattle.std.proofs.Common.{◌≡◌, ℕ, ◌+◌, [], ◌∷◌, ◌++◌, length, refl, sym, ◌∙◌, ap, arith, append_assoc, length-append, take-append-drop, Option, Some, None, bytes_eq}
 use Rattle.std.proofs.{lemmas.Grind.{common_steps}, lemmas.List.{append-nil}, lemmas.Slice.Eq.{bytes_eq-Decides}}
-use Rattle.std.specs.Prelude.{Option, Some, None, bytes_eq}
 use Rattle.iref_grammar.specs.Rules.{Text}
 use Rattle.iref_splice.specs.Backward.{before_end, compared_after, counted_after, is_all}
 

@@ -1,6 +1,5 @@
 -- A text that is counted and held: nothing changes it, and one piece before another is one piece.
-use Rattle.std.proofs.{Common.{◌≡◌, ℕ, [], ◌++◌, arith, append_assoc, length-append}, lemmas.Bool.Decides.{nat_tests}}
-use Rattle.std.specs.Prelude.{Option, Some, None}
+use Rattle.std.proofs.{Common.{◌≡◌, ℕ, [], ◌++◌, arith, append_assoc, length-append, Option, Some, None}, lemmas.Bool.Decides.{nat_tests}}
 use Rattle.iref_grammar.specs.Rules.{Text}
 use Rattle.iref_splice.specs.{Backward.{counted_after}, BackwardLaws.{counted-both, counted-nothing}}
 use Rattle.iref_splice.specs.Held.{Taken, held_after, taken_after}

@@ -1,6 +1,5 @@
 -- What is in its rule is not refused.
-use Rattle.std.proofs.Common.{refl}
-use Rattle.std.specs.Prelude.{Result, Ok, Err, IsOk}
+use Rattle.std.proofs.Common.{refl, Result, Ok, Err, IsOk}
 use Rattle.iref_grammar.specs.Rules.{Text}
 use Rattle.iref_component.specs.Makers.{Parses}
 

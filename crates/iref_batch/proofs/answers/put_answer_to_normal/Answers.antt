@@ -1,5 +1,4 @@
-use Rattle.std.proofs.Common.{◌≡◌, ◌++◌, Ok, Err, Result, ap, append_assoc, refl, rules, ◌∙◌}
-use Rattle.std.specs.Prelude.{OnErr, OnOk, codes}
+use Rattle.std.proofs.Common.{◌≡◌, ◌++◌, Ok, Err, Result, ap, append_assoc, refl, rules, ◌∙◌, OnErr, OnOk, codes}
 use Rattle.iref.specs.{Rules.{Text}, Components.{text_of}}
 use Rattle.iref_batch.specs.Gathering.{Puts}
 use Rattle.iref_batch.proofs.AnswerLemmas.{normal_answer, no_normal_answer}

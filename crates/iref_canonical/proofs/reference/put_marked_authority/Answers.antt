@@ -1,5 +1,5 @@
-use Rattle.std.proofs.Common.{subst}
-use Rattle.std.specs.{Prelude.{codes}, Option.{option_copied}}
+use Rattle.std.proofs.Common.{subst, codes}
+use Rattle.std.specs.Option.{option_copied}
 use Rattle.iref_grammar.specs.Texts.{then_part}
 use Rattle.iref_canonical.specs.CanonicalParts.{encoded_authority}
 use Rattle.iref_canonical.proofs.reference.put_marked_authority.Goals as goal

@@ -1,5 +1,4 @@
-use Rattle.std.proofs.Common.{arith, ◌++◌, ap, length, length-append, refl}
-use Rattle.std.specs.Prelude.{codes}
+use Rattle.std.proofs.Common.{arith, ◌++◌, ap, length, length-append, refl, codes}
 use Rattle.iref_canonical.specs.SortPuts.{spelled_tail}
 use Rattle.iref_canonical.proofs.SortPutLemmas.{length_in}
 use Rattle.iref_canonical.proofs.sort_short.put_from_authority.Goals as goal

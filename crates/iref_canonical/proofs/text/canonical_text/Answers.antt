@@ -1,5 +1,4 @@
-use Rattle.std.proofs.Common.{sym, subst, ◌∙◌}
-use Rattle.std.specs.Prelude.{IsUtf8}
+use Rattle.std.proofs.Common.{sym, subst, ◌∙◌, IsUtf8}
 use Rattle.iref_canonical.proofs.CanonicalTextLemmas.{text_utf8}
 use Rattle.iref_canonical.proofs.text.canonical_text.Goals as goal
 

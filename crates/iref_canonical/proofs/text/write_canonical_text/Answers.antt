@@ -1,5 +1,5 @@
-use Rattle.std.proofs.{Common.{◌≡◌, cond, IsUtf8, sym, subst, ap, ◌∙◌}, lemmas.Str.{IsUtf8-string_bytes}}
-use Rattle.std.specs.{Prelude.{bytes_eq}, String.{string_bytes}}
+use Rattle.std.proofs.{Common.{◌≡◌, cond, IsUtf8, sym, subst, ap, ◌∙◌, bytes_eq}, lemmas.Str.{IsUtf8-string_bytes}}
+use Rattle.std.specs.String.{string_bytes}
 use Rattle.iref_splice.proofs.Seams.{left_is_text, one_is_text}
 use Rattle.iref_parse.specs.ReferenceSlices.{value_of}
 use Rattle.iref_canonical.specs.SpelledReferences.{measured_spelling}

@@ -1,5 +1,4 @@
-use Rattle.std.proofs.Common.{ap, ◌∙◌}
-use Rattle.std.specs.Prelude.{option_map}
+use Rattle.std.proofs.Common.{ap, ◌∙◌, option_map}
 use Rattle.iref_grammar.specs.Characters.{uri_chars}
 use Rattle.iref_fault.specs.{Places.{Port}, BytePlaces.{value_at}}
 use Rattle.iref_fault.proofs.FaultValueLemmas.{part_value, part_boundary}

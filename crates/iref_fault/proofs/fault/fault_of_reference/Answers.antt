@@ -1,5 +1,4 @@
-use Rattle.std.proofs.Common.{ap, ◌∙◌}
-use Rattle.std.specs.Prelude.{option_map}
+use Rattle.std.proofs.Common.{ap, ◌∙◌, option_map}
 use Rattle.iref_fault.specs.BytePlaces.{value_at}
 use Rattle.iref_fault.proofs.FaultValueLemmas.{reference_value, reference_boundary}
 use Rattle.iref_fault.proofs.fault.fault_of_reference.Goals as goal

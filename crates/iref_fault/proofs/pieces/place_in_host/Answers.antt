@@ -1,5 +1,4 @@
-use Rattle.std.proofs.Common.{◌+◌, ◌<◌, ◌^◌, sym, subst}
-use Rattle.std.specs.Prelude.{IfSome}
+use Rattle.std.proofs.Common.{◌+◌, ◌<◌, ◌^◌, sym, subst, IfSome}
 use Rattle.iref_fault.specs.Places.{host_place}
 use Rattle.iref_fault.proofs.FirstPlaceLemmas.{place_within}
 use Rattle.iref_fault.proofs.pieces.place_in_host.Goals as goal

@@ -1,5 +1,5 @@
-use Rattle.std.proofs.Common.{◌+◌, ◌<◌, ◌^◌, length, IsUtf8, rules, sym, subst}
-use Rattle.std.specs.{Prelude.{IfSome}, Option.{option_copied}, Char.{is_ascii_digit}}
+use Rattle.std.proofs.Common.{◌+◌, ◌<◌, ◌^◌, length, IsUtf8, rules, sym, subst, IfSome}
+use Rattle.std.specs.{Option.{option_copied}, Char.{is_ascii_digit}}
 use Rattle.iref_fault.specs.Places.{ones_place}
 use Rattle.iref_fault.proofs.FirstPlaceLemmas.{place_within}
 use Rattle.iref_fault.proofs.pieces.place_in_port.Goals as goal

@@ -1,5 +1,5 @@
-use Rattle.std.proofs.Common.{◌+◌, ◌<◌, ◌^◌, length, IsUtf8, rules, sym, subst}
-use Rattle.std.specs.{Prelude.{IfSome}, Option.{option_copied}}
+use Rattle.std.proofs.Common.{◌+◌, ◌<◌, ◌^◌, length, IsUtf8, rules, sym, subst, IfSome}
+use Rattle.std.specs.Option.{option_copied}
 use Rattle.iref_grammar.specs.Grammar.{is_query_char}
 use Rattle.iref_fault.specs.Places.{encoded_place}
 use Rattle.iref_fault.proofs.FirstPlaceLemmas.{place_within}

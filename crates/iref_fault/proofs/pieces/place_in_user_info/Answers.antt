@@ -1,5 +1,4 @@
-use Rattle.std.proofs.Common.{◌+◌, ◌<◌, ◌^◌, sym, subst}
-use Rattle.std.specs.Prelude.{IfSome}
+use Rattle.std.proofs.Common.{◌+◌, ◌<◌, ◌^◌, sym, subst, IfSome}
 use Rattle.iref_grammar.specs.Grammar.{is_user_info_char}
 use Rattle.iref_fault.specs.Places.{encoded_place}
 use Rattle.iref_fault.proofs.FirstPlaceLemmas.{place_within}

@@ -1,8 +1,7 @@
-use Rattle.std.proofs.Common.{rules, ◌-◌, length, drop, codes, ap, ◌∙◌, unwrap_or, length-drop, arith}
+use Rattle.std.proofs.Common.{rules, ◌-◌, length, drop, codes, ap, ◌∙◌, unwrap_or, length-drop, arith, tests}
 use Rattle.std.proofs.{lemmas.List.{take_all}, lemmas.Iterator.Search.{position_from_yields_List}}
 use Rattle.std.proofs.lemmas.Iterator.{YieldsList-from_slice}
 use Rattle.std.specs.Char.{char_set_contains}
-use borrow.Author.Tests.{tests}
 use Rattle.iref_grammar.proofs.SplitLemmas.{range_or_len}
 use Rattle.iref_grammar.proofs.context.from_mark.Goals as goal
 

@@ -1,5 +1,4 @@
-use Rattle.std.proofs.Common.{◌≡◌, ℕ, List, length}
-use Rattle.std.specs.Prelude.{Option, option_and_then}
+use Rattle.std.proofs.Common.{◌≡◌, ℕ, List, length, Option, option_and_then}
 use denote.Text.{Utf8}
 use denote.Shadow.{shadow}
 use Rattle.iref_grammar.specs.{Rules.{Text}, Grammar.{colon}, Texts.{pieces_at}, IpAddresses.{groups_then}}

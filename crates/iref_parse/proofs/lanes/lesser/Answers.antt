@@ -1,5 +1,5 @@
-use Rattle.std.proofs.{Common.{get_or, sym, subst, w8}, lemmas.Simd.{tops_compared}}
-use Rattle.std.specs.{Prelude.{min, nat_lt}, Simd.Lanes.{sel_l}}
+use Rattle.std.proofs.{Common.{get_or, sym, subst, w8, min, nat_lt}, lemmas.Simd.{tops_compared}}
+use Rattle.std.specs.Simd.Lanes.{sel_l}
 use Rattle.iref_parse.specs.Lanes.{HasLanes}
 use Rattle.iref_parse.proofs.LaneLemmas.{HasLanes-lesser}
 use Rattle.iref_parse.proofs.lanes.lesser.Goals as goal

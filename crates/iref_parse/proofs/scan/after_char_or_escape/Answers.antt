@@ -1,5 +1,4 @@
-use Rattle.std.proofs.{Common.{sym, subst, ◌∙◌, ap, chars, arith}, lemmas.Bool.Decides.{nat_tests}}
-use Rattle.std.specs.Prelude.{Some, None, if◌then◌else◌}
+use Rattle.std.proofs.{Common.{sym, subst, ◌∙◌, ap, chars, arith, Some, None, if◌then◌else◌}, lemmas.Bool.Decides.{nat_tests}}
 use Rattle.iref_grammar.specs.Tests.{is_encoded_after, ScansTo}
 use Rattle.iref_parse.proofs.ScanLemmas.{after_char, after_percent, then_scans}
 use Rattle.iref_parse.proofs.scan.after_char_or_escape.Goals as goal

@@ -1,5 +1,4 @@
-use Rattle.std.proofs.{Common.{◌∙◌, ap, chars, arith}, lemmas.Grind.{common_steps}}
-use Rattle.std.specs.Prelude.{Some, None, if◌then◌else◌}
+use Rattle.std.proofs.{Common.{◌∙◌, ap, chars, arith, Some, None, if◌then◌else◌}, lemmas.Grind.{common_steps}}
 use Rattle.iref_grammar.specs.Tests.{is_encoded_after}
 use Rattle.iref_parse.proofs.ScanLemmas.{after_hexdigit, none_is_owed}
 use Rattle.iref_parse.proofs.scan.after_digit.Goals as goal

@@ -1,6 +1,5 @@
-use Rattle.std.proofs.{Common.{ap, subst, sym, ◌∙◌}, lemmas.Bool.{and_parts}, lemmas.Bool.Decides.{same_from_decides}}
+use Rattle.std.proofs.{Common.{ap, subst, sym, ◌∙◌, is_some}, lemmas.Bool.{and_parts}, lemmas.Bool.Decides.{same_from_decides}}
 use Rattle.std.proofs.lemmas.Str.{IsUtf8-from_is_utf8}
-use Rattle.std.specs.Prelude.{is_some}
 use Rattle.iref_parse.specs.{Encoded.{AreEncoded}, ReferenceSlices.{texts_of}}
 use Rattle.iref_grammar.specs.{ComponentTexts.{spell_components}, Reference.{read_reference}}
 use Rattle.iref_grammar.proofs.ComponentLemmas.{Decides-AreComponents}

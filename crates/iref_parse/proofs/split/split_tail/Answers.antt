@@ -1,7 +1,6 @@
-use Rattle.std.proofs.Common.{◌≡◌, ◌<◌, [], ◌∷◌, length, drop, refl, rules, arith, ap, sym, ◌∙◌}
+use Rattle.std.proofs.Common.{◌≡◌, ◌<◌, [], ◌∷◌, length, drop, refl, rules, arith, ap, sym, ◌∙◌, ◌≢◌, Some, None}
 use Rattle.std.proofs.{lemmas.Grind.{common_steps}, lemmas.Bool.Decides.{nat_tests}, lemmas.List.{nil_from_length}}
 use Rattle.std.proofs.lemmas.Str.{IsUtf8-drop, lead_after_ascii}
-use Rattle.std.specs.Prelude.{◌≢◌, Some, None}
 use Rattle.iref_grammar.specs.{Rules.{Text}, Grammar.{hash_sign, question_mark}}
 use Rattle.iref_grammar.specs.Texts.{before, from_first, after, after_first_char}
 use Rattle.iref_grammar.proofs.CutLemmas.{before-no, before-yes, from_first-no}

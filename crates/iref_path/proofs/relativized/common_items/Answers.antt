@@ -1,5 +1,4 @@
-use Rattle.std.proofs.Common.{arith, ap, ◌∙◌, take, length, ◌-◌}
-use Rattle.std.specs.Prelude.{bytes_eq}
+use Rattle.std.proofs.Common.{arith, ap, ◌∙◌, take, length, ◌-◌, bytes_eq}
 use Rattle.iref_path.specs.NormalItems.{normal_left}
 use Rattle.iref_path.proofs.{CompareListLemmas.{common-cut}, OrderLemmas.{order-cut}}
 use Rattle.iref_path.proofs.relativized.common_items.Goals as goal

@@ -1,5 +1,4 @@
-use Rattle.std.proofs.Common.{◌≡◌, ◌∙◌, true, false, arith}
-use Rattle.std.specs.Prelude.{bytes_eq}
+use Rattle.std.proofs.Common.{◌≡◌, ◌∙◌, true, false, arith, bytes_eq}
 use Rattle.iref_path.specs.NormalItems.{normal_left}
 use Rattle.iref_path.proofs.CompareListLemmas.{common-agrees, common-differs, common-unread, sizes-before}
 use Rattle.iref_path.proofs.relativized.common_of_same_length.Goals as goal

@@ -1,5 +1,5 @@
-use Rattle.std.proofs.Common.{◌≡◌, length}
-use Rattle.std.specs.{List.{common_prefix_len}, Prelude.{bytes_eq}}
+use Rattle.std.proofs.Common.{◌≡◌, length, bytes_eq}
+use Rattle.std.specs.List.{common_prefix_len}
 use Rattle.iref_path.specs.NormalItems.{IsSound, normal_left}
 use Rattle.iref_path.proofs.CompareListLemmas.{or_else}
 use Rattle.iref_path.proofs.relativized.common_of_same_length.Given as goal

@@ -1,11 +1,10 @@
-use Rattle.std.proofs.{Common.{◌∙◌, ap, arith, length}, lemmas.Bool.Decides.{nat_tests}}
+use Rattle.std.proofs.{Common.{◌∙◌, ap, arith, length, ◌-◌, codes, replicate}, lemmas.Bool.Decides.{nat_tests}}
 use Rattle.iref_grammar.specs.PathValue.{read_path}
 use Rattle.iref_path.specs.{NormalItems.{normal_left}, Spelling.{each_closed}, StepsBetween.{last_ones}}
 use Rattle.iref_model.specs.NormalList.{count_parents, normal_segments}
 use Rattle.iref_path.proofs.SpellLemmas.{list_size, normal_size-text, size-append, size-parents}
 use Rattle.iref_path.proofs.SuffixLemmas.{size-drop}
 use Rattle.iref_path.proofs.StepsBetweenLemmas.{fewer_without_last, length-with_last, parents-with_last, size-with_last}
-use Rattle.std.specs.Prelude.{◌-◌, codes, replicate}
 use Rattle.iref_path.proofs.relativized.item_steps.Goals as goal
 
 pub last_after-requires-clause-countable : goal.last_after-requires-clause-countable

@@ -1,5 +1,4 @@
-use Rattle.std.proofs.Common.{arith}
-use Rattle.std.specs.Prelude.{codes}
+use Rattle.std.proofs.Common.{arith, codes}
 use Rattle.iref_path.proofs.RelativeStepLemmas.{up_length}
 use Rattle.iref_path.proofs.relativized.of_text_steps.Goals as goal
 

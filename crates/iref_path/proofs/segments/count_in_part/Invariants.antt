@@ -1,5 +1,4 @@
-use Rattle.std.proofs.Common.{◌≡◌, take}
-use Rattle.std.specs.Prelude.{◌==◌, count_by}
+use Rattle.std.proofs.Common.{◌≡◌, take, ◌==◌, count_by}
 use Rattle.iref_grammar.specs.Grammar.{slash}
 use Rattle.iref_path.proofs.segments.count_in_part.Given as goal
 

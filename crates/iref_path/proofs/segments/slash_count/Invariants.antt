@@ -1,5 +1,5 @@
-use Rattle.std.proofs.Common.{◌≡◌, ◌≤◌, ◌+◌}
-use Rattle.std.specs.{Prelude.{◌==◌, count_by}, Slice.Iter.{chunks_rest, chunks_size}}
+use Rattle.std.proofs.Common.{◌≡◌, ◌≤◌, ◌+◌, ◌==◌, count_by}
+use Rattle.std.specs.Slice.Iter.{chunks_rest, chunks_size}
 use Rattle.iref_grammar.specs.Grammar.{slash}
 use Rattle.iref_path.proofs.segments.slash_count.Given as goal
 

@@ -1,5 +1,4 @@
-use Rattle.std.proofs.{Common.{arith, ap, sym, subst, ◌∙◌}, lemmas.Bool.{and_parts}}
-use Rattle.std.specs.Prelude.{IsUtf8}
+use Rattle.std.proofs.{Common.{arith, ap, sym, subst, ◌∙◌, IsUtf8}, lemmas.Bool.{and_parts}}
 use Rattle.iref_grammar.specs.Contexts.{is_path_in}
 use Rattle.iref_path.specs.PathParts.{is_path_after}
 use Rattle.iref_path.proofs.SpellLemmas.{normalized-in_context, normalized-read, path-utf8}

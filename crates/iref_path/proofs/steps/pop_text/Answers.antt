@@ -1,5 +1,4 @@
-use Rattle.std.proofs.Common.{arith, [], ◌+◌, length, sym, ap, ◌∙◌, ◌≡◌, cond}
-use Rattle.std.specs.Prelude.{◌==◌, Some, None, codes}
+use Rattle.std.proofs.Common.{arith, [], ◌+◌, length, sym, ap, ◌∙◌, ◌≡◌, cond, ◌==◌, Some, None, codes}
 use Rattle.iref_path.proofs.StepTextLemmas.{cut_at_root, put_to_end, root_kept, to_end}
 use Rattle.iref_path.proofs.PopTextLemmas.{read_none, read_last, read_by, popped_root, popped_nothing, popped_parent, push_closed, front_cut, front_text, none_left}
 use Rattle.iref_path.proofs.steps.pop_text.Goals as goal

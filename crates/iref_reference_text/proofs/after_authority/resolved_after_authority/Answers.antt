@@ -1,5 +1,4 @@
-use Rattle.std.proofs.Common.{◌≡◌, ◌++◌, ◌∷◌, [], true, take, arith}
-use Rattle.std.specs.Prelude.{codes, is_some}
+use Rattle.std.proofs.Common.{◌≡◌, ◌++◌, ◌∷◌, [], true, take, arith, codes, is_some}
 use Rattle.iref_grammar.specs.{Grammar.{colon, hash_sign, question_mark}, Texts.{part_then, then_part}}
 use Rattle.iref_grammar.proofs.{ComponentLemmas.{is_some-copied}, ReferenceCutLemmas.{read_reference-spelled}}
 use Rattle.iref_parse.specs.ReferenceSlices.{texts_of}

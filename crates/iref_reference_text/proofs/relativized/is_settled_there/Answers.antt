@@ -1,5 +1,4 @@
-use Rattle.std.proofs.Common.{◌∙◌, ap}
-use Rattle.std.specs.Prelude.{bytes_eq}
+use Rattle.std.proofs.Common.{◌∙◌, ap, bytes_eq}
 use Rattle.iref_grammar.specs.PathValue.{read_path, spell_path}
 use Rattle.iref_model.specs.PathSteps.{normalized}
 use Rattle.iref_parse.specs.ReferenceSlices.{texts_of}

@@ -1,5 +1,5 @@
-use Rattle.std.proofs.Common.{◌≡◌, ◌∙◌, ◌&&◌, ap, arith, false, sym, true}
-use Rattle.std.specs.{Prelude.{None, is_some}, Option.{option_copied}}
+use Rattle.std.proofs.Common.{◌≡◌, ◌∙◌, ◌&&◌, ap, arith, false, sym, true, None, is_some}
+use Rattle.std.specs.Option.{option_copied}
 use Rattle.iref_grammar.proofs.ComponentLemmas.{is_some-copied}
 use Rattle.iref_grammar.specs.{Authority.{read_authority}, ComponentTexts.{ComponentTexts, spell_components}}
 use Rattle.iref_model.proofs.MappedMarkLemmas.{is_some-map}

@@ -1,5 +1,4 @@
-use Rattle.std.proofs.{Common.{rules, arith, ◌≡◌, sym, subst, ◌∙◌}, lemmas.List.{get_or_read, length-map}}
-use Rattle.std.specs.Prelude.{None, Some, MatchOption}
+use Rattle.std.proofs.{Common.{rules, arith, ◌≡◌, sym, subst, ◌∙◌, None, Some, MatchOption}, lemmas.List.{get_or_read, length-map}}
 use Rattle.iref.specs.declared.compact.entry.Key.TheVariants.{Iri}
 use Rattle.iref.specs.PrefixTree.{key_of, keys_of, text_at, place_at, HasPlace, IsLead}
 use Rattle.iref.proofs.PrefixChangeLemmas.{none_held, held_stands, held_inside, held_lead}

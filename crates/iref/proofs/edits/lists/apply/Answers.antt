@@ -1,5 +1,4 @@
-use Rattle.std.proofs.Common.{◌≡◌, true, Ok, rules, refl, sym, ap, ◌∙◌}
-use Rattle.std.specs.Prelude.{is_none}
+use Rattle.std.proofs.Common.{◌≡◌, true, Ok, rules, refl, sym, ap, ◌∙◌, is_none}
 use Rattle.iref_component.specs.Components.{text_of}
 use Rattle.iref_grammar.specs.Reference.{read_reference}
 use Rattle.iref_model.specs.Edits.{drops_scheme, edited}

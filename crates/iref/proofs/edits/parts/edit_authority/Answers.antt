@@ -1,5 +1,4 @@
-use Rattle.std.proofs.Common.{refl, rules}
-use Rattle.std.specs.Prelude.{option_map}
+use Rattle.std.proofs.Common.{refl, rules, option_map}
 use Rattle.iref_component.specs.Components.{text_of}
 use Rattle.iref_grammar.specs.Authority.{read_authority}
 use Rattle.iref_model.specs.{AuthoritySteps.{with_user_info, with_host, with_port}, PortNumbers.{port_text}}

@@ -1,5 +1,4 @@
-use Rattle.std.proofs.Common.{arith, ◌∙◌, ap}
-use Rattle.std.specs.Prelude.{min}
+use Rattle.std.proofs.Common.{arith, ◌∙◌, ap, min}
 use Rattle.iref_canonical.proofs.PaddedLemmas.{first_in_more}
 use Rattle.iref_canonical.proofs.padded.Padded.position.Goals as goal
 

@@ -1,5 +1,4 @@
-use Rattle.std.proofs.Common.{[], ◌∷◌}
-use Rattle.std.specs.Prelude.{if◌then◌else◌}
+use Rattle.std.proofs.Common.{[], ◌∷◌, if◌then◌else◌}
 use Rattle.iref_canonical.specs.{SortItems.{items_of}, SortKey.{sort_item, sort_list, sort_path}}
 use Rattle.iref_canonical.proofs.sort_key.SortedReference.put_path.Goals as goal
 

@@ -1,5 +1,5 @@
-use Rattle.std.proofs.Common.{[], ◌∷◌}
-use Rattle.std.specs.{List.{flat_map}, Prelude.{if◌then◌else◌}}
+use Rattle.std.proofs.Common.{[], ◌∷◌, if◌then◌else◌}
+use Rattle.std.specs.List.{flat_map}
 use Rattle.iref_canonical.specs.{SortItems.{items_of}, SortKey.{sort_item}, SortPrefix.{sort_path_prefix}}
 use Rattle.iref_canonical.proofs.sort_key.SortedReference.put_path_prefix.Goals as goal
 

@@ -1,8 +1,7 @@
-use Rattle.std.proofs.{Common.{◌≡◌, ◌∙◌, refl, sym, rules}, lemmas.Iterator.{YieldsList-from_map}}
+use Rattle.std.proofs.{Common.{◌≡◌, ◌∙◌, refl, sym, rules, tests}, lemmas.Iterator.{YieldsList-from_map}}
 use Rattle.std.proofs.{lemmas.Iterator.Adapters.{YieldsList-from_bytes}, lemmas.Iterator.Consumers.{YieldsList-at}}
 use Rattle.std.proofs.lemmas.Iterator.Search.{cmp_from_yields_List}
 use Rattle.std.specs.{Char.{to_ascii_lowercase}, Ordering.{nat_cmp}, Str.{str_to_ascii_lowercase}}
-use borrow.Author.Tests.{tests}
 use Rattle.iref_component.specs.Comparisons.{by_text}
 use Rattle.iref_component.proofs.KeyLemmas.{same_keys}
 use Rattle.iref_component.proofs.key.LowerCaseKey.compare.Goals as goal

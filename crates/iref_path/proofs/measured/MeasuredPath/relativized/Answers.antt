@@ -1,5 +1,4 @@
-use Rattle.std.proofs.Common.{◌≡◌, ◌≢◌, ◌∙◌, false, ap, arith, subst, sym}
-use Rattle.std.specs.Prelude.{IfSome, nat_le, List, Bool}
+use Rattle.std.proofs.Common.{◌≡◌, ◌≢◌, ◌∙◌, false, ap, arith, subst, sym, IfSome, nat_le, List, Bool}
 use Rattle.iref_grammar.specs.{Rules.{Text}, Texts.{all_but_last}, Contexts.{alone}}
 use Rattle.iref_grammar.specs.PathValue.{PathValue, read_path, spell_path}
 use Rattle.iref_model.specs.{Guard.{guarded}, NormalList.{count_parents, kept_segments, normal_segments}}

@@ -1,5 +1,4 @@
-use Rattle.std.proofs.{Common.{Some, ap, refl, subst, sym}, lemmas.Bool.{false≢true}}
-use Rattle.std.specs.Prelude.{None, option_map}
+use Rattle.std.proofs.{Common.{Some, ap, refl, subst, sym, None, option_map}, lemmas.Bool.{false≢true}}
 use Rattle.iref_component.specs.{Suffixes.{SpellsSuffix}, Paths.{path_value}}
 use Rattle.iref_reference.proofs.SuffixLemmas.{left-of_path, none-left, none-of_path}
 use Rattle.iref_reference.proofs.borrowed.Reference.suffix.Goals as goal

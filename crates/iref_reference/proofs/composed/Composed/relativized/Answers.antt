@@ -1,5 +1,4 @@
-use Rattle.std.proofs.Common.{◌≡◌, arith, subst, sym}
-use Rattle.std.specs.Prelude.{None, Option, Some, option_map}
+use Rattle.std.proofs.Common.{◌≡◌, arith, subst, sym, None, Option, Some, option_map}
 use Rattle.iref_grammar.specs.ComponentTexts.{ComponentTexts, spell_components}
 use Rattle.iref_parse.specs.ReferenceSlices.{value_of}
 use Rattle.iref_model.specs.RelativizedChoice.{chosen}

@@ -1,6 +1,5 @@
-use Rattle.std.proofs.Common.{◌≡◌, false, refl, sym, ap, ◌∙◌}
+use Rattle.std.proofs.Common.{◌≡◌, false, refl, sym, ap, ◌∙◌, Option, Some, None, is_some, option_map}
 use mathlib.Core.Option.{some}
-use Rattle.std.specs.Prelude.{Option, Some, None, is_some, option_map}
 use Rattle.iref_grammar.specs.{declared.offsets.Offsets.{Offsets}, Authority.{AuthorityValue, spell_authority}}
 use Rattle.iref_grammar.specs.{ComponentOffsets.{offsets_of, text_at}, Reference.{read_reference}}
 use Rattle.iref_grammar.proofs.RangeLemmas.{authority_range}

@@ -1,6 +1,4 @@
-use Rattle.std.proofs.Common.{ap, refl, sym, ◌∙◌}
-use mathlib.Core.Bool.{true≢false}
-use Rattle.std.specs.Prelude.{is_some}
+use Rattle.std.proofs.Common.{ap, refl, sym, ◌∙◌, true≢false, is_some}
 use Rattle.iref_grammar.specs.ComponentTexts.{ComponentTexts}
 use Rattle.iref_reference.proofs.PartLemmas.{scheme_of_uri, uri_with_scheme}
 use Rattle.iref_reference.proofs.parts.UriParts+C.from_bytes.Goals as goal

@@ -1,5 +1,4 @@
-use Rattle.std.proofs.Common.{◌≡◌, ◌∙◌, ap, arith}
-use Rattle.std.specs.Prelude.{None, Some, is_some}
+use Rattle.std.proofs.Common.{◌≡◌, ◌∙◌, ap, arith, None, Some, is_some}
 use Rattle.iref_grammar.specs.Reference.{ReferenceValue, read_reference}
 use Rattle.iref_model.specs.{Relativized.{relativized}, RelativizedLaws.{AreReadable}}
 use Rattle.iref_reference.specs.References.{reference_buf_text, reference_text}

@@ -1,5 +1,4 @@
-use Rattle.std.proofs.Common.{◌≡◌, ◌∙◌, ◌&&◌, ap, arith, false, sym, true}
-use Rattle.std.specs.Prelude.{Some, is_some, option_map}
+use Rattle.std.proofs.Common.{◌≡◌, ◌∙◌, ◌&&◌, ap, arith, false, sym, true, Some, is_some, option_map}
 use Rattle.iref_grammar.proofs.ComponentLemmas.{is_some-copied}
 use Rattle.iref_grammar.specs.{ComponentTexts.{spell_components}, PathValue.{spell_path}}
 use Rattle.iref_parse.specs.ReferenceSlices.{texts_of, value_of}

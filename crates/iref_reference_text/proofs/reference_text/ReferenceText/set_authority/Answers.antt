@@ -1,5 +1,5 @@
-use Rattle.std.proofs.Common.{arith, length-append, sym, ◌∙◌}
-use Rattle.std.specs.{Prelude.{option_map}, Option.{option_copied}}
+use Rattle.std.proofs.Common.{arith, length-append, sym, ◌∙◌, option_map}
+use Rattle.std.specs.Option.{option_copied}
 use Rattle.iref_grammar.specs.{Authority.{read_authority}, Reference.{read_reference}}
 use Rattle.iref_grammar.proofs.ComponentLemmas.{authority_spelled, is_some-copied}
 use Rattle.iref_model.proofs.MappedMarkLemmas.{is_some-map}

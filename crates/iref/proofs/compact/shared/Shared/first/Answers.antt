@@ -1,5 +1,4 @@
-use Rattle.std.proofs.Common.{rules, ◌≡◌, ℕ, ◌<◌, true, false, sym, subst}
-use Rattle.std.specs.Prelude.{MatchOption, None}
+use Rattle.std.proofs.Common.{rules, ◌≡◌, ℕ, ◌<◌, true, false, sym, subst, MatchOption, None}
 use Rattle.iref.specs.PrefixPlaces.{holds}
 use Rattle.iref.proofs.PrefixSharedLemmas.{no_place, first_place}
 use Rattle.iref.proofs.compact.shared.Shared.first.Goals as goal

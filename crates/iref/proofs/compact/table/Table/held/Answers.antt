@@ -1,5 +1,4 @@
-use Rattle.std.proofs.{Common.{rules, arith, ◌≡◌, false, sym, subst, ◌∙◌}, lemmas.List.{length-map}}
-use Rattle.std.specs.Prelude.{None, IfNone}
+use Rattle.std.proofs.{Common.{rules, arith, ◌≡◌, false, sym, subst, ◌∙◌, None, IfNone}, lemmas.List.{length-map}}
 use Rattle.iref.specs.{PrefixTable.{is_taken}, PrefixPlaces.{table_of}}
 use Rattle.iref.specs.PrefixTree.{key_of, keys_of, IsAbsent, IsFirstOf}
 use Rattle.iref.specs.declared.compact.entry.Key.TheVariants.{Label, Iri}

@@ -1,6 +1,5 @@
-use Rattle.std.proofs.Common.{arith, ◌≡◌, ℕ, ◌+◌, false, ◌&&◌, ◌||◌, [], ◌∷◌, ◌++◌, length, ap, sym, subst, ◌∙◌}
+use Rattle.std.proofs.Common.{arith, ◌≡◌, ℕ, ◌+◌, false, ◌&&◌, ◌||◌, [], ◌∷◌, ◌++◌, length, ap, sym, subst, ◌∙◌, ◌==◌, Some}
 use Rattle.std.proofs.Math.ListN.{set}
-use Rattle.std.specs.Prelude.{◌==◌, Some}
 use Rattle.iref.specs.PrefixTable.{PrefixEntry, is_taken}
 use Rattle.iref.specs.PrefixPlaces.{entries_at, holds, table_of, AreWithin, IsBook, IsShared}
 use Rattle.iref.specs.{PrefixTree.{keys_of, text_at}, declared.compact.entry.Key.TheVariants.{Iri}}

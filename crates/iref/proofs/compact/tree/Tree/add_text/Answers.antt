@@ -1,6 +1,5 @@
-use Rattle.std.proofs.{Common.{arith, ◌≤◌, [], ◌∷◌, ◌++◌, length, inl, inr, sym, subst, ◌∙◌}, lemmas.List.{length-map}}
+use Rattle.std.proofs.{Common.{arith, ◌≤◌, [], ◌∷◌, ◌++◌, length, inl, inr, sym, subst, ◌∙◌, nat_eq}, lemmas.List.{length-map}}
 use Rattle.std.proofs.lemmas.List.Sums.{common_prefix_len-le}
-use Rattle.std.specs.Prelude.{nat_eq}
 use Rattle.iref.specs.PrefixTree.{key_of, keys_of, AreBytes, IsFirstOf}
 use Rattle.iref.proofs.PrefixBitLemmas.{common_bits, symbols_differ, same_whole}
 use Rattle.iref.proofs.PrefixInsertLemmas.{lowered, added, tree_again, first_again, first_of_all, new_absent}

@@ -1,5 +1,5 @@
-use Rattle.std.proofs.{Common.{rules, arith, ◌≡◌, length, ap, sym, ◌∙◌}, lemmas.List.{length-map}}
-use Rattle.std.specs.{Prelude.{None, Some}, Option.{option_copied}}
+use Rattle.std.proofs.{Common.{rules, arith, ◌≡◌, length, ap, sym, ◌∙◌, None, Some}, lemmas.List.{length-map}}
+use Rattle.std.specs.Option.{option_copied}
 use Rattle.iref.specs.PrefixTree.{key_of, keys_of}
 use Rattle.iref.proofs.PrefixFindLemmas.{absent_placed, none_placed, first_placed, entry_read, led_to, led_none}
 use Rattle.iref.proofs.compact.tree.Tree.entry_of.Goals as goal

@@ -1,5 +1,5 @@
-use Rattle.std.proofs.Common.{rules, arith, ◌≡◌, ◌<◌, length, ap, sym, ◌∙◌}
-use Rattle.std.specs.{Prelude.{None, Some}, Option.{option_copied}}
+use Rattle.std.proofs.Common.{rules, arith, ◌≡◌, ◌<◌, length, ap, sym, ◌∙◌, None, Some}
+use Rattle.std.specs.Option.{option_copied}
 use Rattle.iref.specs.{declared.compact.entry.Key.TheVariants.{Iri}, PrefixTree.{keys_of, text_at}}
 use Rattle.iref.proofs.PrefixFindLemmas.{none_longest, near_longest, nothing_ended, ended_within, ended_longest, last_none, last_within, last_longest, whole_apart, whole_led, entry_read, entry_key, lead_within}
 use Rattle.iref.proofs.compact.tree.Tree.longest_fit.Goals as goal

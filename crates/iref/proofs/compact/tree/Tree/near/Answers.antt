@@ -1,5 +1,4 @@
-use Rattle.std.proofs.Common.{arith, ◌≡◌, inl, inr, true, length, get_or, refl, sym, ap, subst, ◌∙◌}
-use Rattle.std.specs.Prelude.{None}
+use Rattle.std.proofs.Common.{arith, ◌≡◌, inl, inr, true, length, get_or, refl, sym, ap, subst, ◌∙◌, None}
 use Rattle.iref.specs.{declared.compact.tree.Child.TheVariants.{Inner, Leaf}, PrefixTree.{keys_of, child}}
 use Rattle.iref.proofs.PrefixFindLemmas.{lead_read}
 use Rattle.iref.proofs.PrefixWayLemmas.{node_first, root_link, way_root, way_next, goes_right, bits_fewer, way_to_leaf, way_to_inner, EndsAt, ends_before, goes_before}

@@ -1,5 +1,5 @@
-use Rattle.std.proofs.{Common.{rules, arith, ◌≡◌, length, ap, sym, subst, ◌∙◌}, lemmas.Bool.{both_ways}}
-use Rattle.std.specs.{Cmp.Lexicographic.{bytes_decides}, Prelude.{None, MatchOption}}
+use Rattle.std.proofs.{Common.{rules, arith, ◌≡◌, length, ap, sym, subst, ◌∙◌, None, MatchOption}, lemmas.Bool.{both_ways}}
+use Rattle.std.specs.Cmp.Lexicographic.{bytes_decides}
 use Rattle.iref.specs.PrefixTree.{keys_of, AreBytes, IsAbsent, IsFirstOf}
 use Rattle.iref.proofs.PrefixFindLemmas.{none_fits_absent, near_is_not}
 use Rattle.iref.proofs.compact.tree.Tree.number_of.Goals as goal

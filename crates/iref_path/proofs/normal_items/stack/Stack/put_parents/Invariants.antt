@@ -1,5 +1,4 @@
-use Rattle.std.proofs.Common.{◌≡◌, ◌+◌, ◌*◌, List}
-use Rattle.std.specs.Prelude.{codes, replicate}
+use Rattle.std.proofs.Common.{◌≡◌, ◌+◌, ◌*◌, List, codes, replicate}
 use Rattle.iref_grammar.specs.Rules.{Text}
 use Rattle.iref_path.specs.Stacks.{Completes}
 use Rattle.iref_path.proofs.normal_items.stack.Stack.put_parents.Given as goal
