@@ -216,7 +216,8 @@ pub fn rewrite_text(text: &mut String, at: Span, guard: &str) -> usize
     end
 }
 
-/// What stands first in the normal form of a path in its context, and how many bytes this has.
+/// What stands first in the normal form of a path in its context, and how many bytes the whole form
+/// has.
 #[tactic(auto, using(crate::proofs::SpellLemmas::guarded_sizes))]
 pub fn normal_guard(context: PathContext, path: &str) -> (&'static str, usize)
     ensures text { rewritten result.0.now path.now

@@ -16,7 +16,7 @@ use iref_reference_text::measured::{MeasuredReference, count_paths};
 use iref_reference_text::reference_text::{HeldRule, ReferenceText};
 use iref_splice::Memory;
 use iref_splice::unwritten::Unwritten;
-use std::alloc::{AllocError, Global};
+use std::alloc::Global;
 use std::fmt;
 use std::marker::{Model, PhantomData};
 
@@ -140,11 +140,7 @@ impl<'a, R: HeldRule, C: CharSet> Composed<'a, R, C> {
         ensures ok { OnOk result (out.new.items ≡ out.old.items ++ self.now) }
         ensures err { OnErr result (out.new.items ≡ out.old.items) }
     {
-        let start = out.len();
-        let len = start.checked_add(self.len).ok_or(AllocError)?;
-        out.resize(len, 0)?;
-        self.components.fill(&mut out[start..]);
-        Ok(())
+        self.components.append_sized(self.len, out)
     }
 
     /// An owned value of the text, such as `s:g`. Memory is requested once. Out of memory, it
