@@ -11,7 +11,8 @@ use iref_component::path::Path;
 use iref_grammar::chars::CharSet;
 use iref_splice::Memory;
 pub use lists::{Applied, apply_all, apply_all_uri};
-use std::alloc::AllocError;
+use std::alloc::{AllocError, Global};
+use std::default::MadeWith;
 use std::fmt;
 use thiserror::Error;
 
@@ -64,6 +65,13 @@ impl<C: CharSet> Clone for Edit<'_, C> {
 
     fn clone(&self) -> Result<Self, AllocError> {
         Ok(*self)
+    }
+}
+
+impl<C: CharSet> MadeWith<Global> for Edit<'_, C> {
+    // The unused places of a short list hold it.
+    fn made_with(_: Global) -> Self {
+        Edit::Normalize
     }
 }
 

@@ -22,11 +22,15 @@ const MOVES: usize = 32;
 // So many bytes the query and the fragment have at least then, with their delimiters.
 const MIN_REST: usize = 1024;
 
+// Fewer edits than these are done with no look at what they have in common.
+const FEW: usize = 8;
+
 /// What a list of edits returns: the number of the first that cannot be done, from 0, and why.
 pub type Applied = Result<(), (usize, EditFault)>;
 
 // Does one edit, or changes nothing.
 #[tactic(auto, using(crate::proofs::EditListLemmas::done_in, crate::proofs::EditListLemmas::part_done_in), unfolding(iref_model::specs::Edits::edited))]
+#[inline(always)]
 fn apply<R: SetsScheme, C: CharSet>(
     reference: &mut ReferenceBuf<R, C>,
     edit: Edit<'_, C>,
@@ -104,13 +108,20 @@ struct Run {
     fault: Option<EditFault>,
 }
 
-// Does edits, up to the first that cannot be done. On a copy, from which `rest` bytes of query and
-// fragment are left out, it keeps room for these, as they would have in place. With no bytes left out
-// it stops once `MOVES` edits have changed the length.
+// Where edits are done.
+#[derive(Clone, Copy)]
+enum Mode {
+    // in the reference itself, up to the edit with which `MOVES` have changed the length
+    InPlace,
+    // in a copy without so many bytes of query and fragment, for which it keeps room
+    OnCopy(usize),
+}
+
+// Does edits, up to the first that cannot be done, or as many as the mode says.
 fn apply_each<R: SetsScheme, C: CharSet>(
     reference: &mut ReferenceBuf<R, C>,
     edits: &[Edit<'_, C>],
-    rest: usize,
+    mode: Mode,
 ) -> Run
     ensures within { result.done ≤ length edits.now }
     ensures done { AreDone (edited_in R.allows_scheme)
@@ -121,8 +132,7 @@ fn apply_each<R: SetsScheme, C: CharSet>(
         (reference_buf_value reference.new) result.done) }
     ensures goes_on { IfNone result.fault (0 < length edits.now → 0 < result.done) }
 {
-    // The next edit that changes the length is the first one.
-    let mut moves = 1;
+    let mut moves = 0;
     let mut len = reference.as_str().len();
     let mut is_normal = false;
     for (i, edit) in edits.iter().enumerate() {
@@ -130,15 +140,20 @@ fn apply_each<R: SetsScheme, C: CharSet>(
             let fault = Some(fault);
             return Run { done: i, fault };
         }
-        if reference.as_str().len() != len {
-            len = reference.as_str().len();
-            if rest > 0 {
-                let _full = reserve(reference, rest);
-            } else if moves == MOVES {
+        if reference.as_str().len() == len {
+            continue;
+        }
+        len = reference.as_str().len();
+        moves += 1;
+        match mode {
+            Mode::InPlace if moves == MOVES => {
                 let fault = None;
                 return Run { done: i + 1, fault };
             }
-            moves += 1;
+            Mode::InPlace => {}
+            Mode::OnCopy(rest) => {
+                let _full = reserve(reference, rest);
+            }
         }
     }
     Run {
@@ -225,12 +240,27 @@ fn apply_on_copy<R: SetsScheme, C: CharSet>(
         return 0;
     };
     let rest = rest_len(reference);
-    let run = apply_each(&mut front, edits, rest);
+    let run = apply_each(&mut front, edits, Mode::OnCopy(rest));
     if set_rest(&mut front, reference).is_err() {
         return 0;
     }
     *reference = front;
     run.done
+}
+
+// Does a few edits in place.
+fn apply_few<R: SetsScheme, C: CharSet>(
+    reference: &mut ReferenceBuf<R, C>,
+    edits: &[Edit<'_, C>],
+) -> Applied
+    ensures { AppliesList R.allows_scheme edits.now reference.old reference.new result }
+{
+    for (i, edit) in edits.iter().enumerate() {
+        if let Err(fault) = apply(reference, *edit) {
+            return Err((i, fault));
+        }
+    }
+    Ok(())
 }
 
 // Does the edits, in place and on copies by turns. No copy is taken any more once edits of one were
@@ -241,10 +271,13 @@ fn apply_list<R: SetsScheme, C: CharSet>(
 ) -> Applied
     ensures { AppliesList R.allows_scheme edits.now reference.old reference.new result }
 {
+    if edits.len() < FEW {
+        return apply_few(reference, edits);
+    }
     let mut done = 0;
     let mut may_copy = true;
     while done < edits.len() {
-        let run = apply_each(reference, &edits[done..], 0);
+        let run = apply_each(reference, &edits[done..], Mode::InPlace);
         done += run.done;
         if let Some(fault) = run.fault {
             return Err((done, fault));

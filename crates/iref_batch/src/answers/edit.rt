@@ -1,5 +1,5 @@
 //! The answer to `edit`.
-ghost use Rattle.std.specs.{Prelude.{◌≡◌, ◌∷◌, map, IfOk}, List.{list_all}, Option.{option_copied}};
+ghost use Rattle.std.specs.{Prelude.{◌≡◌, [], ◌∷◌, map, IfOk}, List.{list_all}, Option.{option_copied}};
 ghost use Rattle.iref_batch.specs.{Lines.{is_valid_edit, text_and_edits}, EditFields.{IsRead, edits_read}};
 ghost use Rattle.iref_batch.specs.{Fields.{fields_of}, Gathering.{Puts}, Runs.{reply_to}};
 ghost use Rattle.iref.specs.{Characters.{iri_chars}, EditSteps.{edit_step}};
@@ -9,24 +9,22 @@ use crate::edit_fields::{FieldError, read_edit};
 use crate::request::next_field;
 use iref::Memory;
 use iref::iri::{Edit, EditFault, IriRefBuf, apply_all};
-use memchr::memchr_iter;
+use smallvec::SmallVec;
 use std::alloc::Global;
 
-// How many edits the fields name at most. A field that names one has three bytes at least.
-fn most_edits(fields: Option<&[u8]>) -> usize {
-    match fields {
-        Some(text) => memchr_iter(b'\t', text).count().min(text.len() / 4) + 1,
-        None => 0,
-    }
-}
+// So many edits of a line take no memory.
+const FEW: usize = 4;
 
-// The edits that the fields name. All fields are read, since one that is no edit at all goes before
-// values outside their grammar.
-fn read_edits(alloc: Global, fields: Option<&[u8]>) -> Result<Vec<Edit<'_>>, FieldError>
-    ensures { IsRead (λ edits. map edit_step edits.items) (list_all (is_valid_edit iri_chars))
+// Adds the edits that the fields name to an empty list. All fields are read, since one that is no edit
+// at all goes before values outside their grammar.
+fn read_edits<'a>(
+    fields: Option<&'a [u8]>,
+    edits: &mut SmallVec<Edit<'a>, FEW>,
+) -> Result<(), FieldError>
+    requires { edits.old.items ≡ [] }
+    ensures { IsRead (λ _. map edit_step edits.new.items) (list_all (is_valid_edit iri_chars))
         (edits_read (fields_of (option_copied fields.entry))) result }
 {
-    let mut edits = Vec::with_capacity(alloc, most_edits(fields)).or(Err(FieldError::Memory))?;
     let mut are_valid = true;
     let mut left = fields;
     while let Some(field) = next_field(&mut left) {
@@ -41,7 +39,7 @@ fn read_edits(alloc: Global, fields: Option<&[u8]>) -> Result<Vec<Edit<'_>>, Fie
         }
     }
     if are_valid {
-        Ok(edits)
+        Ok(())
     } else {
         Err(FieldError::Invalid)
     }
@@ -66,10 +64,11 @@ pub fn put_answer_to_edit(
     ensures { Puts (reply_to (text_and_edits (text.now ∷ fields_of (option_copied fields.entry))))
         out.old.items out.new.items result }
 {
-    let edits = match read_edits(*out.allocator(), fields) {
-        Ok(edits) => edits,
+    let mut edits = SmallVec::new(*out.allocator());
+    match read_edits(fields, &mut edits) {
+        Ok(()) => {}
         Err(error) => return put_refused(error, out),
-    };
+    }
     let more = fields.map_or(0, |fields| fields.len());
     let bytes = copied(*out.allocator(), text, more)?;
     let Ok(mut reference) = IriRefBuf::from_bytes(bytes) else {
