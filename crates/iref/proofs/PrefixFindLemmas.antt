@@ -1,16 +1,17 @@
 -- The entries that a tree finds.
 use Rattle.std.proofs.Common.{arith, ◌≡◌, ◌≢◌, ℕ, zero, suc, ◌+◌, ◌-◌, ◌*◌, ◌<◌, ◌≤◌, inl, inr, true, false, List, [], ◌∷◌, length, get_or, take, refl, sym, ap, subst, ◌∙◌, ⊎_elim, nat_eq, MatchOption, Option, Some, None}
 use Rattle.std.proofs.lemmas.Bool.{cases_lt, cases_eq, false_from_ne_true}
-use Rattle.std.proofs.lemmas.List.{get_or_read, length-take, length-take-le, length-map}
-use Rattle.std.proofs.lemmas.List.Sums.{common_prefix_len-le}
+use Rattle.std.proofs.{lemmas.List.{length-take, length-take-le, length-map}, lemmas.List.Sums.{common_prefix_len-le}}
 use Rattle.std.specs.{List.{AllByRecursion, common_prefix_len, find}, Cmp.Lexicographic.{bytes_decides}}
 use Rattle.iref_grammar.specs.Rules.{Text}
-use Rattle.iref.specs.{PrefixTable.{PrefixEntry, PrefixTable, fits, longest_fit}, declared.compact.entry.Key.{Key}}
+use Rattle.iref.specs.PrefixTable.{PrefixEntry, PrefixTable, fits, longest_fit}
+use Rattle.iref.specs.{declared.compact.entry.Entries.{Entries}, declared.compact.entry.Key.{Key}}
 use Rattle.iref.specs.PrefixPlaces.{AreWithin, entries_at, entry_at}
 use Rattle.iref.specs.{declared.compact.entry.Key.TheVariants.{Label, Iri}, declared.compact.entry.Lead.{Lead}}
-use Rattle.iref.specs.{declared.compact.tree.Child.{Child}, declared.compact.tree.Child.TheVariants.{Inner, Leaf}}
-use Rattle.iref.specs.{declared.compact.tree.Near.{Near}, declared.compact.tree.Tree.{Tree}}
-use Rattle.iref.specs.PrefixTree.{key_of, keys_of, has_key, text_at, place_at, lead_at, node_at, SameBits, AreBytes, HasPlace, IsLead, IsLed, IsAbsent, IsFirst, IsFirstOf, IsFront, IsTree, IsFit, IsEnded, IsNear}
+use Rattle.iref.specs.{declared.compact.entry.Row.{Row}, declared.compact.tree.Child.{Child}}
+use Rattle.iref.specs.{declared.compact.tree.Child.TheVariants.{Inner, Leaf}, declared.compact.tree.Near.{Near}}
+use Rattle.iref.specs.declared.compact.tree.Tree.{Tree}
+use Rattle.iref.specs.PrefixTree.{all_of, key_of, keys_of, has_key, text_at, place_at, lead_at, node_at, SameBits, AreBytes, HasPlace, IsLead, IsLed, IsAbsent, IsFirst, IsFirstOf, IsFront, IsTree, IsFit, IsEnded, IsNear}
 use Rattle.iref.proofs.PrefixBitLemmas.{same_bits_refl, same_bits_sym, same_bits_trans, same_bits_less, as_long, no_longer, goes_within, goes_there, ends_there, same_text, common_bits, common_upto, bits_of_begun, begins_by_bits, same_byte}
 use Rattle.iref.proofs.PrefixWayLemmas.{root_link}
 
@@ -57,19 +58,20 @@ module _ (key : Key) (all : PrefixTable) (places : List (Option ℕ)) (t : Text)
   pub absent_placed : AreWithin all places → IsAbsent (keys_of key all) t → find (has_key key t) (entries_at all places) ≡ None
   absent_placed within absent = none_placed (λ has. absent has.number (omega (arith, within has.place has.number has.stands, length-map all (key_of key))) has.is)
 
--- an entry that was read
-pub entry_read : (all : PrefixTable) (n : ℕ) (e : PrefixEntry) → n < length all → e ≡ get_or all n e → e ≡ entry_at all n
-entry_read all n e l is = get_or_read all n e l is (record { label = []; iri = [] })
+-- how many entries there are
+pub rows_all : (entries : Entries) → length (all_of entries) ≡ length entries.rows.items
+rows_all entries = length-map entries.rows.items (λ (row : Row). row.entry)
+
+pub rows_texts : (key : Key) (entries : Entries) → length (keys_of key (all_of entries)) ≡ length entries.rows.items
+rows_texts key entries = length-map (all_of entries) (key_of key) ∙ rows_all entries
 
 pub lead_within : (key : Key) (all : PrefixTable) {places : List (Option ℕ)} {t : Text} (lead : Lead) → IsLead (keys_of key all) places t lead → lead.number < length all
 lead_within key all lead is = let l = is.within in omega (arith, length-map all (key_of key))
 
 -- where the first entry of a text leads
-pub lead_read : (texts : List Text) (places : List (Option ℕ)) (leads : List (Option Lead)) (n : ℕ) (lead : Option Lead) → IsLed texts places leads → IsFirst texts n → lead ≡ get_or leads n lead
+pub lead_read : (texts : List Text) (places : List (Option ℕ)) (leads : List (Option Lead)) (n : ℕ) (lead : Option Lead) → IsLed texts places leads → IsFirst texts n → lead ≡ lead_at leads n
     → MatchOption lead (HasPlace texts places (text_at texts n) → ⊥) (IsLead texts places (text_at texts n))
-lead_read texts places leads n lead led first read =
-    let size = led.long in let l = first.within in
-    subst (λ o. MatchOption o (HasPlace texts places (text_at texts n) → ⊥) (IsLead texts places (text_at texts n))) (sym (get_or_read leads n lead (omega arith) read None)) (led.each n first)
+lead_read texts places leads n lead led first read = subst (λ o. MatchOption o (HasPlace texts places (text_at texts n) → ⊥) (IsLead texts places (text_at texts n))) (sym read) (led.each n first)
 
 -- where the first entry of this text leads
 module _ (texts : List Text) (places : List (Option ℕ)) (leads : List (Option Lead)) (t : Text) (n : ℕ) where

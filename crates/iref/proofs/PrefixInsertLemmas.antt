@@ -1,15 +1,14 @@
 -- A new text in a tree.
-use Rattle.std.proofs.Common.{arith, ◌≡◌, ◌≢◌, ℕ, ◌+◌, ◌-◌, ◌*◌, ◌<◌, ◌≤◌, ◌⊎◌, inl, inr, Bool, true, false, List, [], ◌∷◌, ◌++◌, length, get_or, refl, sym, ap, subst, ◌∙◌, ⊎_elim}
+use Rattle.std.proofs.Common.{arith, ◌≡◌, ◌≢◌, ℕ, ◌+◌, ◌-◌, ◌*◌, ◌<◌, ◌≤◌, ◌⊎◌, inl, inr, Bool, true, false, List, [], ◌∷◌, ◌++◌, length, get_or, refl, sym, ap, subst, ◌∙◌, ⊎_elim, nat_eq}
 use Rattle.std.proofs.{lemmas.List.Sums.{common_prefix_len-le}, lemmas.Bool.{cases_lt, cases_eq, cases_order}}
 use Rattle.std.proofs.lemmas.List.{get_or_append_left, get_or_push, get_or-set_same, get_or-set_other, length_push}
 use Rattle.std.proofs.Math.ListN.{set, length-set}
-use Rattle.std.specs.{Prelude.{Option, Some, None, MatchOption, IfSome, unwrap_or, nat_eq}, List.{common_prefix_len}}
+use Rattle.std.specs.{Prelude.{Option, Some, None, MatchOption, IfSome, unwrap_or}, List.{common_prefix_len}}
 use Rattle.std.specs.Global.{Vec}
 use Rattle.iref_grammar.specs.Rules.{Text}
-use Rattle.iref.specs.{declared.compact.entry.Lead.{Lead}, declared.compact.tree.Bit.{Bit}}
-use Rattle.iref.specs.{declared.compact.tree.Child.{Child}, declared.compact.tree.Child.TheVariants.{Inner, Leaf}}
-use Rattle.iref.specs.{declared.compact.tree.Near.{Near}, declared.compact.tree.Node.{Node}}
-use Rattle.iref.specs.declared.compact.tree.Tree.{Tree}
+use Rattle.iref.specs.{declared.compact.tree.Bit.{Bit}, declared.compact.tree.Child.{Child}}
+use Rattle.iref.specs.{declared.compact.tree.Child.TheVariants.{Inner, Leaf}, declared.compact.tree.Near.{Near}}
+use Rattle.iref.specs.{declared.compact.tree.Node.{Node}, declared.compact.tree.Tree.{Tree}}
 use Rattle.iref.specs.PrefixTree.{text_at, bit, place_of, child, child_at, with_child, node_at, number_of, spot, Spot, SameBits, AreBytes, IsAbsent, IsFirst, IsFirstOf, IsFront, IsIn, IsOnSide, IsBelow, IsLink, IsNode, IsTree, IsNear, IsFirstDifference, IsAdded, IsNew, IsWay, Covers}
 use Rattle.iref.proofs.PrefixBitLemmas.{same_bits_refl, same_bits_sym, same_bits_trans, same_bits_less, same_bits_next, no_longer, differ_within, ended_at, same_byte}
 use Rattle.iref.proofs.PrefixWayLemmas.{spot_text, root_link, read_node}
@@ -650,11 +649,11 @@ made texts tree t n b entry number h node c turn is cases = record {
     right_of true other = refl
     right_of false other = absurd (other refl)
 
-module _ (old : Tree) (node : Node) (root : Option Child) (vec : Vec Node) (leads : Vec (Option Lead)) (front last : ℕ) where
+module _ (old : Tree) (node : Node) (root : Option Child) (vec : Vec Node) (front last : ℕ) where
   abbrev before : List Node
   before = old.nodes.items
 
-  pub grown_above : vec.items ≡ before ++ node ∷ [] → root ≡ Some (Inner (length before)) → IsGrown None old (record { root = root; nodes = vec; least = old.least; front = front; last = last; leads = leads }) node
+  pub grown_above : vec.items ≡ before ++ node ∷ [] → root ≡ Some (Inner (length before)) → IsGrown None old (record { root = root; nodes = vec; least = old.least; front = front; last = last }) node
   grown_above items root_is = record {
     long = ap length items ∙ length_push before node;
     last = ap (λ l. node_at l (length before)) items ∙ get_or_push before node _ (length before) refl;
@@ -671,7 +670,7 @@ module _ (old : Tree) (node : Node) (root : Option Child) (vec : Vec Node) (lead
       there k l = ap (λ l. node_at l k) items ∙ get_or_append_left before (node ∷ []) _ k l
 
   pub grown_below : (k : ℕ) (side : Bool) (was : Node) → k < length before → was ≡ get_or (before ++ node ∷ []) k was → vec.items ≡ set (before ++ node ∷ []) k (with_child was side (Inner (length before))) → root ≡ old.root
-      → IsGrown (Some (k, side)) old (record { root = root; nodes = vec; least = old.least; front = front; last = last; leads = leads }) node
+      → IsGrown (Some (k, side)) old (record { root = root; nodes = vec; least = old.least; front = front; last = last }) node
   grown_below k side was l read items root_is = record {
     long = ap length items ∙ length-set (before ++ node ∷ []) k (with_child was side (Inner (length before))) ∙ length_push before node;
     last = ap (λ l. node_at l (length before)) items ∙ get_or-set_other (before ++ node ∷ []) k (length before) _ _ (omega arith) ∙ get_or_push before node _ (length before) refl;

@@ -51,11 +51,18 @@ changed_none label iri (e ∷ table) free =
 
 -- ---- more entries and more places
 
-pub entries_pushed : (all : PrefixTable) (places : List (Option ℕ)) (n : ℕ) → entries_at all (places ++ Some n ∷ []) ≡ entries_at all places ++ entry_at all n ∷ []
+pub entries_spared : (all : PrefixTable) (places : List (Option ℕ)) → entries_at all (places ++ None ∷ []) ≡ entries_at all places
 unfolding entries_at
-entries_pushed all [] n = refl
-entries_pushed all (None ∷ places) n = entries_pushed all places n
-entries_pushed all (Some m ∷ places) n = ap (λ t. entry_at all m ∷ t) (entries_pushed all places n)
+entries_spared all [] = refl
+entries_spared all (None ∷ places) = entries_spared all places
+entries_spared all (Some m ∷ places) = ap (λ t. entry_at all m ∷ t) (entries_spared all places)
+
+-- an entry stands at the last place, where none stood
+pub entries_put : (all : PrefixTable) (places : List (Option ℕ)) (n : ℕ) → entries_at all (set (places ++ None ∷ []) (length places) (Some n)) ≡ entries_at all places ++ entry_at all n ∷ []
+unfolding entries_at
+entries_put all [] n = refl
+entries_put all (None ∷ places) n = entries_put all places n
+entries_put all (Some m ∷ places) n = ap (λ t. entry_at all m ∷ t) (entries_put all places n)
 
 pub entries_of_more : (all : PrefixTable) (e : PrefixEntry) (places : List (Option ℕ)) → AreWithin all places → entries_at (all ++ e ∷ []) places ≡ entries_at all places
 unfolding entries_at

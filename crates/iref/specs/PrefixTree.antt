@@ -3,7 +3,8 @@ use Rattle.std.specs.Prelude.{◌≡◌, ◌≢◌, ℕ, ◌+◌, ◌-◌, ◌*�
 use Rattle.std.specs.{Int.{bit_at}, Vec.{vec_len, vec_capacity}}
 use Rattle.iref_grammar.specs.Rules.{Text}
 use Rattle.iref.specs.{PrefixTable.{PrefixEntry, PrefixTable}, declared.compact.entry.Key.{Key}}
-use Rattle.iref.specs.{declared.compact.entry.Key.TheVariants.{Label, Iri}, declared.compact.entry.Lead.{Lead}}
+use Rattle.iref.specs.{declared.compact.entry.Key.TheVariants.{Label, Iri}, declared.compact.entry.Entries.{Entries}}
+use Rattle.iref.specs.{declared.compact.entry.Lead.{Lead}, declared.compact.entry.Row.{Row}}
 use Rattle.iref.specs.{declared.compact.tree.Bit.{Bit}, declared.compact.tree.Child.{Child}}
 use Rattle.iref.specs.{declared.compact.tree.Child.TheVariants.{Inner, Leaf}, declared.compact.tree.Near.{Near}}
 use Rattle.iref.specs.{declared.compact.tree.Node.{Node}, declared.compact.tree.Tree.{Tree}}
@@ -21,6 +22,23 @@ keys_of key table = map (key_of key) table
 
 abbrev pub text_at : List Text → ℕ → Text
 text_at texts n = slice_index_or texts n []
+
+-- ---- what is kept of the entries that were ever added
+
+abbrev pub lead_in : Key → Row → Option Lead
+lead_in Label row = row.label
+lead_in Iri row = row.iri
+
+abbrev pub all_of : Entries → PrefixTable
+all_of entries = map (λ (row : Row). row.entry) entries.rows.items
+
+abbrev pub places_of : Entries → List (Option ℕ)
+places_of entries = map (λ (row : Row). row.here) entries.rows.items
+
+abbrev pub leads_of : Key → Entries → List (Option Lead)
+leads_of key entries = map (lead_in key) entries.rows.items
+
+-- ---- the first entry of a text
 
 -- no text before it is the same
 pub record IsFirst (texts : List Text) (n : ℕ) : Type 0 where
@@ -62,6 +80,9 @@ lead_at leads n = slice_index_or leads n None
 pub record IsLed (texts : List Text) (places : List (Option ℕ)) (leads : List (Option Lead)) : Type 0 where
   pub long : length leads ≡ length texts
   pub each : (n : ℕ) → IsFirst texts n → MatchOption (lead_at leads n) (HasPlace texts places (text_at texts n) → ⊥) (IsLead texts places (text_at texts n))
+
+abbrev pub IsLedIn : Key → Entries → Type 0
+IsLedIn key entries = IsLed (keys_of key (all_of entries)) (places_of entries) (leads_of key entries)
 
 -- ---- the bits of a text
 
@@ -164,9 +185,9 @@ pub record IsTree (texts : List Text) (tree : Tree) : Type 0 where
   pub least : (n : ℕ) → n < length texts → tree.least ≤ length (text_at texts n)
   pub front : IsFront texts tree.nodes.items tree.front tree.last tree.root
 
--- room for one more entry
+-- room for one more text; the first takes no node
 abbrev pub HasRoom : Tree → Type 0
-HasRoom tree = (vec_len tree.nodes < vec_capacity tree.nodes) × (vec_len tree.leads < vec_capacity tree.leads)
+HasRoom tree = tree.root ≢ None → vec_len tree.nodes < vec_capacity tree.nodes
 
 -- ---- where a text leads
 

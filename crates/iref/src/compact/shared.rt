@@ -1,13 +1,14 @@
 //! The places of the entries that have one IRI.
-ghost use Rattle.std.specs.Prelude.{◌≡◌, ℕ, ◌+◌, ◌^◌, ◌<◌, ◌==◌, ◌&&◌, ◌||◌, not, true, false};
-ghost use Rattle.std.specs.Prelude.{MatchOption, OnOk, OnErr};
-ghost use Rattle.iref.specs.PrefixPlaces.{holds};
+ghost use Rattle.std.specs.Prelude.{◌≡◌, ◌≢◌, ℕ, ◌+◌, ◌^◌, ◌<◌, ◌==◌, ◌&&◌, ◌||◌, not, true, false, Bool};
+ghost use Rattle.std.specs.Prelude.{MatchOption, IfOk, OnErr, Some};
+ghost use Rattle.iref.specs.PrefixPlaces.{holds, ArePlaces};
 
 use iref_splice::Memory;
 use std::alloc::Global;
 use std::collections::BTreeSet;
 
-// Pairs of the number of an IRI and of a place.
+// Pairs of the number of an IRI and of one of its places behind the first. So an IRI that stands at
+// one place has none.
 #[derive(Drop)]
 pub(super) struct Shared {
     pairs: BTreeSet<(usize, usize)>,
@@ -21,26 +22,44 @@ impl Shared {
         Shared { pairs }
     }
 
-    // Adds a place of an IRI.
-    pub(super) fn insert(&mut self, iri: usize, place: usize) -> Result<(), Memory>
-        ensures ok { OnOk result ((m p : ℕ)
-            → holds self.new m p ≡ ((m == iri && p == place) || holds self.old m p)) }
+    // Adds a place of an IRI that has this first place, and returns the first one then.
+    pub(super) fn insert(
+        &mut self,
+        iri: usize,
+        first: Option<usize>,
+        place: usize,
+    ) -> Result<usize, Memory>
+        ensures others { (m p : ℕ) → m ≢ iri → holds self.new m p ≡ holds self.old m p }
+        ensures ok { IfOk result (λ now. (h : ℕ → Bool) → h place ≡ false
+            → ArePlaces self.old iri first h
+            → ArePlaces self.new iri (Some now) (λ p. p == place || h p)) }
         ensures err { OnErr result ((m p : ℕ) → holds self.new m p ≡ holds self.old m p) }
     {
-        self.pairs.insert((iri, place))?;
-        Ok(())
+        let Some(first) = first else {
+            return Ok(place);
+        };
+        self.pairs.insert((iri, first.max(place)))?;
+        Ok(first.min(place))
     }
 
-    // Takes a place of an IRI away.
-    pub(super) fn remove(&mut self, iri: usize, place: usize)
-        ensures { (m p : ℕ)
-            → holds self.new m p ≡ (not (m == iri && p == place) && holds self.old m p) }
+    // Takes a place of an IRI away that has this first place, and returns the first one then.
+    pub(super) fn remove(&mut self, iri: usize, first: Option<usize>, place: usize) -> Option<usize>
+        requires { iri + 1 < 2 ^ 64 }
+        ensures others { (m p : ℕ) → m ≢ iri → holds self.new m p ≡ holds self.old m p }
+        ensures left { (h : ℕ → Bool) → ArePlaces self.old iri first h
+            → ArePlaces self.new iri result (λ p. not (p == place) && h p) }
     {
-        self.pairs.remove(&(iri, place));
+        if first != Some(place) {
+            self.pairs.remove(&(iri, place));
+            return first;
+        }
+        let next = self.least(iri)?;
+        self.pairs.remove(&(iri, next));
+        Some(next)
     }
 
-    // The first place of an IRI.
-    pub(super) fn first(&self, iri: usize) -> Option<usize>
+    // The least place of an IRI behind its first.
+    fn least(&self, iri: usize) -> Option<usize>
         requires { iri + 1 < 2 ^ 64 }
         ensures { MatchOption result ((p : ℕ) → holds self.now iri p ≡ false)
             (λ p. (holds self.now iri p ≡ true) × ((q : ℕ) → q < p → holds self.now iri q ≡ false)) }

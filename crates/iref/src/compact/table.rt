@@ -1,12 +1,9 @@
 //! All entries that were ever added, those that the table has, and how both are found.
-ghost use Rattle.std.specs.Prelude.{◌≡◌, ◌<◌, ◌++◌, [], ◌∷◌, length, map, true, false};
-ghost use Rattle.std.specs.{Prelude.{IfNone, IfOk, IfSome, MatchOption, OnErr, OnOk}, List.{find}};
-ghost use Rattle.std.specs.{Option.{option_copied}, Vec.{vec_len, vec_capacity}};
+ghost use Rattle.std.specs.Prelude.{◌≡◌, ◌++◌, [], ◌∷◌, length, map, true, false, IfNone, IfOk, IfSome, OnErr, OnOk};
+ghost use Rattle.std.specs.{List.{find}, Option.{option_copied}};
 ghost use Rattle.iref_grammar.specs.{Characters.{iri_chars}, Reference.{is_uri}};
 ghost use Rattle.iref.specs.PrefixTable.{has_label, is_taken, longest_fit, removed, with_iri};
-ghost use Rattle.iref.specs.PrefixPlaces.{table_of, AreWithin, IsAddedTo, IsHeld, IsRoomy, IsShared, IsTable};
-ghost use Rattle.iref.specs.PrefixTree.{keys_of, text_at, HasPlace, IsFirst, IsLead};
-ghost use Rattle.iref.specs.declared.compact.entry.Key.TheVariants.{Label, Iri};
+ghost use Rattle.iref.specs.PrefixPlaces.{table_of, IsAddedTo, IsHeld, IsRoomy, IsTable};
 
 use super::entry::{Entries, Entry, Key, Lead};
 use super::shared::Shared;
@@ -23,7 +20,8 @@ pub(super) struct Table {
     len: usize,
     labels: Tree,
     iris: Tree,
-    // the places of the entries that have one IRI, by the first entry that ever had it
+    // the places of the entries that have one IRI, behind the first, by the first entry that ever had
+    // that IRI
     shared: Shared,
 }
 
@@ -45,29 +43,13 @@ struct Held {
     iri: usize,
 }
 
-// Where the first entry of an IRI leads to.
-fn first_place(entries: &Entries, shared: &Shared, iri: usize) -> Option<Lead>
-    requires shared { IsShared (keys_of Iri entries.now.all.items) entries.now.places.items
-        shared.now }
-    requires within { AreWithin entries.now.all.items entries.now.places.items }
-    requires first { IsFirst (keys_of Iri entries.now.all.items) iri }
-    ensures { let texts = keys_of Iri entries.now.all.items in
-        MatchOption result (HasPlace texts entries.now.places.items (text_at texts iri) → ⊥)
-        (IsLead texts entries.now.places.items (text_at texts iri)) }
-{
-    let place = shared.first(iri)?;
-    let number = entries.places[place]?;
-    Some(Lead { place, number })
-}
-
 impl Table {
     pub(super) fn new(alloc: Global) -> Self
         ensures table { IsTable result }
         ensures none { table_of result.entries ≡ [] }
     {
-        let all = Vec::new(alloc);
-        let places = Vec::new(alloc);
-        let entries = Entries { all, places };
+        let rows = Vec::new(alloc);
+        let entries = Entries { rows };
         let labels = Tree::new(alloc);
         let iris = Tree::new(alloc);
         let shared = Shared::new(alloc);
@@ -115,14 +97,11 @@ impl Table {
         ensures err { OnErr result (table_of self.new.entries ≡ table_of self.old.entries) }
     {
         let added = self.add(label, iri)?;
-        let place = self.entries.places.len();
-        self.shared.insert(added.iri, place)?;
-        self.entries.places.push_reserved(Some(added.number));
-        let number = added.number;
-        let lead = Some(Lead { place, number });
-        self.labels.set_lead(added.label, lead);
-        let lead = first_place(&self.entries, &self.shared, added.iri);
-        self.iris.set_lead(added.iri, lead);
+        let place = added.number;
+        let first = self.entries.first_place(added.iri);
+        let first = self.shared.insert(added.iri, first, place)?;
+        self.entries.set_place(place, added.label, Some(place));
+        self.entries.set_first(added.iri, Some(first));
         self.len += 1;
         Ok(())
     }
@@ -140,21 +119,19 @@ impl Table {
         let Some(held) = self.held(label) else {
             return Ok(false);
         };
-        if self.entries.all[held.lead.number].text() == iri {
+        if self.entries.entry(held.lead.number).text() == iri {
             return Ok(true);
         }
         let added = self.add(label, iri)?;
         let place = held.lead.place;
-        self.shared.insert(added.iri, place)?;
-        self.shared.remove(held.iri, place);
-        self.entries.places[place] = Some(added.number);
-        let number = added.number;
-        let lead = Some(Lead { place, number });
-        self.labels.set_lead(held.label, lead);
-        let old = first_place(&self.entries, &self.shared, held.iri);
-        let new = first_place(&self.entries, &self.shared, added.iri);
-        self.iris.set_lead(held.iri, old);
-        self.iris.set_lead(added.iri, new);
+        let new = self.entries.first_place(added.iri);
+        let new = self.shared.insert(added.iri, new, place)?;
+        let old = self.entries.first_place(held.iri);
+        let old = self.shared.remove(held.iri, old, place);
+        let number = Some(added.number);
+        self.entries.set_place(place, held.label, number);
+        self.entries.set_first(held.iri, old);
+        self.entries.set_first(added.iri, Some(new));
         Ok(true)
     }
 
@@ -170,11 +147,10 @@ impl Table {
             return false;
         };
         let place = held.lead.place;
-        self.shared.remove(held.iri, place);
-        self.entries.places[place] = None;
-        self.labels.set_lead(held.label, None);
-        let lead = first_place(&self.entries, &self.shared, held.iri);
-        self.iris.set_lead(held.iri, lead);
+        let first = self.entries.first_place(held.iri);
+        let first = self.shared.remove(held.iri, first, place);
+        self.entries.set_place(place, held.label, None);
+        self.entries.set_first(held.iri, first);
         self.len -= 1;
         true
     }
@@ -187,51 +163,46 @@ impl Table {
     {
         let texts = label.as_bytes();
         let label = self.labels.number_of(&self.entries, Key::Label, texts)?;
-        let lead = self.labels.lead_of(label)?;
-        let text = self.entries.all[lead.number].text();
+        let lead = self.entries.lead(Key::Label, label)?;
+        let text = self.entries.entry(lead.number).text();
         let iri = self
             .iris
             .number_of(&self.entries, Key::Iri, text.as_bytes())?;
         Some(Held { lead, label, iri })
     }
 
-    // Makes room for one more entry and its place.
+    // Makes room for one more entry.
     #[tactic(auto, using(crate::proofs::PrefixBookLemmas::book_again))]
     fn reserve(&mut self) -> Result<(), Memory>
         requires table { IsTable self.old }
         ensures table { IsTable self.new }
-        ensures all { self.new.entries.all.items ≡ self.old.entries.all.items }
-        ensures places { self.new.entries.places.items ≡ self.old.entries.places.items }
+        ensures rows { self.new.entries.rows.items ≡ self.old.entries.rows.items }
         ensures room { OnOk result (IsRoomy self.new) }
     {
-        self.entries.all.reserve(1)?;
-        self.entries.places.reserve(1)?;
+        self.entries.rows.reserve(1)?;
         self.labels.reserve()?;
         self.iris.reserve()?;
         Ok(())
     }
 
-    // Adds an entry that has no place yet, and makes room for one more place.
+    // Adds an entry that has no place yet.
     fn add(&mut self, label: &str, iri: &str) -> Result<Added, Memory>
         requires table { IsTable self.old }
         requires iri { is_uri iri_chars iri.now ≡ true }
         ensures table { IsTable self.new }
-        ensures places { self.new.entries.places.items ≡ self.old.entries.places.items }
-        ensures room { OnOk result (vec_len self.new.entries.places
-            < vec_capacity self.new.entries.places) }
         ensures same { table_of self.new.entries ≡ table_of self.old.entries }
-        ensures ok { IfOk result (IsAddedTo self.old.entries.all.items
-            self.new.entries.all.items (record { label = label.now; iri = iri.now })) }
+        ensures ok { IfOk result (IsAddedTo self.old.entries self.new.entries
+            (record { label = label.now; iri = iri.now })) }
     {
-        let alloc = *self.entries.all.allocator();
+        let alloc = *self.entries.rows.allocator();
         let entry = Entry::new(alloc, label, iri)?;
         self.reserve()?;
-        let number = self.entries.all.len();
+        let number = self.entries.rows.len();
         let texts = label.as_bytes();
         let label = self.labels.add(&self.entries, Key::Label, texts);
         let texts = iri.as_bytes();
         let iri = self.iris.add(&self.entries, Key::Iri, texts);
-        self.entries.all.push_reserved(entry);
+        self.entries.push(entry);
         Ok(Added { number, label, iri })
     }
 }

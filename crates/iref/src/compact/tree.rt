@@ -2,15 +2,14 @@
 ghost use Rattle.std.specs.Prelude.{◌≡◌, ◌≢◌, ℕ, ◌-◌, ◌*◌, ◌<◌, ◌≤◌, ◌++◌, [], ◌∷◌, List, false, length};
 ghost use Rattle.std.specs.Prelude.{◌+◌, min, nat_lt, slice_index_or, MatchOption, OnOk, Option, Some, None};
 ghost use Rattle.std.specs.{List.{find}, Option.{option_copied}, Vec.{vec_len, vec_capacity}};
-ghost use Rattle.std.proofs.Math.ListN.{set};
 ghost use Rattle.iref_grammar.specs.Rules.{Text};
 ghost use Rattle.iref.specs.{PrefixTable.{longest_fit}, PrefixPlaces.{table_of, AreWithin}};
 ghost use Rattle.iref.specs.declared.compact.entry.Key.TheVariants.{Iri};
-ghost use Rattle.iref.specs.PrefixTree.{has_key, keys_of, lead_at, symbol, bit, place_of, child, spot};
-ghost use Rattle.iref.specs.PrefixTree.{with_child, HasRoom, IsAbsent, IsAdded, IsFirstDifference};
-ghost use Rattle.iref.specs.PrefixTree.{IsFirstOf, IsFit, IsLed, IsNear, IsNew, IsTree, IsWay, SameBits};
+ghost use Rattle.iref.specs.PrefixTree.{has_key, keys_of, lead_at, symbol, bit, place_of, child, spot, IsWay, SameBits};
+ghost use Rattle.iref.specs.PrefixTree.{all_of, leads_of, places_of, with_child, HasRoom, IsAbsent, IsAdded};
+ghost use Rattle.iref.specs.PrefixTree.{IsFirstDifference, IsFirstOf, IsFit, IsLedIn, IsNear, IsNew, IsTree};
 
-use super::entry::{Entries, Entry, Key, Lead, text_of};
+use super::entry::{Entries, Entry, Key, Lead};
 use iref_parse::front::common_front;
 use iref_splice::Memory;
 use std::alloc::Global;
@@ -57,8 +56,6 @@ pub(super) struct Tree {
     // node is the root
     front: usize,
     last: u8,
-    // where the first entry of each text leads to, by its number
-    leads: Vec<Option<Lead>>,
 }
 
 // Where a text leads in a tree.
@@ -83,6 +80,23 @@ fn symbol(text: &[u8], at: usize) -> usize
         256 + text[at] as usize
     } else {
         0
+    }
+}
+
+impl Near<'_> {
+    // Where the nearest entry leads to by its IRI, if the whole text is what is in common.
+    #[inline(always)]
+    fn lead_of_whole(self, entries: &Entries, common: usize) -> Option<Lead>
+        requires { self.number < length entries.now.rows.items }
+        ensures whole { common ≡ length self.entry.text.now
+            → result ≡ lead_at (leads_of Iri entries.now) self.entry.number }
+        ensures part { common ≢ length self.entry.text.now → result ≡ None }
+    {
+        if common == self.text.len() {
+            entries.lead(Key::Iri, self.number)
+        } else {
+            None
+        }
     }
 }
 
@@ -161,43 +175,39 @@ fn byte_before(text: &[u8], at: usize) -> u8
 
 impl Tree {
     pub(super) fn new(alloc: Global) -> Self
-        ensures tree { IsTree [] result }
-        ensures led { IsLed [] [] result.leads.items }
+        ensures { IsTree [] result }
     {
         let nodes = Vec::new(alloc);
         let least = usize::MAX;
-        let leads = Vec::new(alloc);
         Tree {
             root: None,
             nodes,
             least,
             front: 0,
             last: 0,
-            leads,
         }
     }
 
-    // Makes room for one more entry.
+    // Makes room for one more text. The first takes no node.
     pub(super) fn reserve(&mut self) -> Result<(), Memory>
         ensures tree { (texts : List Text) → IsTree texts self.old → IsTree texts self.new }
-        ensures leads { self.new.leads.items ≡ self.old.leads.items }
         ensures room { OnOk result (HasRoom self.new) }
     {
-        self.nodes.reserve(1)?;
-        self.leads.reserve(1)?;
+        if self.root.is_some() {
+            self.nodes.reserve(1)?;
+        }
         Ok(())
     }
 
     // Where a text leads by the bits of its symbols up to this place.
     #[inline(always)]
     fn near<'a>(&self, entries: &'a Entries, key: Key, text: &[u8], len: usize) -> Option<Near<'a>>
-        requires tree { IsTree (keys_of key entries.now.all.items) self.now }
-        requires led { IsLed (keys_of key entries.now.all.items) entries.now.places.items
-            self.now.leads.items }
+        requires tree { IsTree (keys_of key (all_of entries.now)) self.now }
+        requires led { IsLedIn key entries.now }
         requires len { len ≤ length text.now }
-        ensures { let texts = keys_of key entries.now.all.items in
+        ensures { let texts = keys_of key (all_of entries.now) in
             MatchOption result (texts ≡ [])
-            (IsNear texts entries.now.places.items text.now len) }
+            (IsNear texts (places_of entries.now) text.now len) }
     {
         let end = end_of(len, text.len());
         let mut child = self.root?;
@@ -208,7 +218,7 @@ impl Tree {
                 break;
             }
             if node.bit.shift == GOES_ON {
-                ended = self.leads[node.entry].or(ended);
+                ended = entries.lead(key, node.entry).or(ended);
                 child = node.right;
             } else {
                 child = node.child(node.bit.is_in(text));
@@ -218,7 +228,7 @@ impl Tree {
             Child::Inner(at) => self.nodes[at].entry,
             Child::Leaf(number) => number,
         };
-        let text = text_of(entries, key, number);
+        let text = entries.text(key, number);
         Some(Near {
             number,
             text,
@@ -242,10 +252,9 @@ impl Tree {
 
     // The first entry that was ever added under a text, by its number.
     pub(super) fn number_of(&self, entries: &Entries, key: Key, text: &[u8]) -> Option<usize>
-        requires tree { IsTree (keys_of key entries.now.all.items) self.now }
-        requires led { IsLed (keys_of key entries.now.all.items) entries.now.places.items
-            self.now.leads.items }
-        ensures { let texts = keys_of key entries.now.all.items in
+        requires tree { IsTree (keys_of key (all_of entries.now)) self.now }
+        requires led { IsLedIn key entries.now }
+        ensures { let texts = keys_of key (all_of entries.now) in
             MatchOption result (IsAbsent texts text.now) (IsFirstOf texts text.now) }
     {
         if !self.may_fit(text) {
@@ -266,39 +275,22 @@ impl Tree {
         key: Key,
         text: &[u8],
     ) -> Option<&'a Entry>
-        requires tree { IsTree (keys_of key entries.now.all.items) self.now }
-        requires led { IsLed (keys_of key entries.now.all.items) entries.now.places.items
-            self.now.leads.items }
-        requires within { AreWithin entries.now.all.items entries.now.places.items }
+        requires tree { IsTree (keys_of key (all_of entries.now)) self.now }
+        requires led { IsLedIn key entries.now }
+        requires within { AreWithin (all_of entries.now) (places_of entries.now) }
         ensures { option_copied result
             ≡ find (has_key key text.now) (table_of entries.now) }
     {
         let number = self.number_of(entries, key, text)?;
-        let lead = self.lead_of(number)?;
-        Some(&entries.all[lead.number])
-    }
-
-    // Where the nearest entry leads to, if its whole text is what is in common.
-    #[inline(always)]
-    fn lead_of_whole(&self, near: Near<'_>, common: usize) -> Option<Lead>
-        requires { near.number < length self.now.leads.items }
-        ensures whole { common ≡ length near.entry.text.now
-            → result ≡ lead_at self.now.leads.items near.entry.number }
-        ensures part { common ≢ length near.entry.text.now → result ≡ None }
-    {
-        if common == near.text.len() {
-            self.lead_of(near.number)
-        } else {
-            None
-        }
+        let lead = entries.lead(key, number)?;
+        Some(entries.entry(lead.number))
     }
 
     // The first of the longest entries of the table whose text is a beginning of this one.
     pub(super) fn longest_fit<'a>(&self, entries: &'a Entries, text: &[u8]) -> Option<&'a Entry>
-        requires tree { IsTree (keys_of Iri entries.now.all.items) self.now }
-        requires led { IsLed (keys_of Iri entries.now.all.items) entries.now.places.items
-            self.now.leads.items }
-        requires within { AreWithin entries.now.all.items entries.now.places.items }
+        requires tree { IsTree (keys_of Iri (all_of entries.now)) self.now }
+        requires led { IsLedIn Iri entries.now }
+        requires within { AreWithin (all_of entries.now) (places_of entries.now) }
         ensures { option_copied result ≡ longest_fit text.now (table_of entries.now) }
     {
         if !self.may_fit(text) {
@@ -306,48 +298,30 @@ impl Tree {
         }
         let near = self.near(entries, Key::Iri, text, text.len())?;
         let common = common_front(near.text, text);
-        if let Some(lead) = self.lead_of_whole(near, common) {
-            return Some(&entries.all[lead.number]);
+        if let Some(lead) = near.lead_of_whole(entries, common) {
+            return Some(entries.entry(lead.number));
         }
         let ended = near.ended?;
-        let entry = &entries.all[ended.number];
+        let entry = entries.entry(ended.number);
         if entry.text().len() <= common {
             return Some(entry);
         }
         let last = self.near(entries, Key::Iri, text, common)?;
         let ended = last.ended?;
-        Some(&entries.all[ended.number])
+        Some(entries.entry(ended.number))
     }
 
-    // Adds the next entry under its text, which leads nowhere yet, and returns the first entry that
-    // was ever added under it.
+    // Adds the next entry under its text, unless an entry has the text, and returns the first entry
+    // that was ever added under it.
     pub(super) fn add(&mut self, entries: &Entries, key: Key, text: &[u8]) -> usize
-        requires tree { IsTree (keys_of key entries.now.all.items) self.old }
-        requires led { IsLed (keys_of key entries.now.all.items) entries.now.places.items
-            self.old.leads.items }
+        requires tree { IsTree (keys_of key (all_of entries.now)) self.old }
+        requires led { IsLedIn key entries.now }
         requires room { HasRoom self.old }
-        ensures tree { IsTree (keys_of key entries.now.all.items ++ text.now ∷ []) self.new }
-        ensures leads { self.new.leads.items ≡ self.old.leads.items ++ None ∷ [] }
-        ensures first { IsFirstOf (keys_of key entries.now.all.items ++ text.now ∷ [])
+        ensures tree { IsTree (keys_of key (all_of entries.now) ++ text.now ∷ []) self.new }
+        ensures first { IsFirstOf (keys_of key (all_of entries.now) ++ text.now ∷ [])
             text.now result }
     {
-        let first = self.add_text(entries, key, text);
-        self.leads.push_reserved(None);
-        first
-    }
-
-    // Adds the next entry under its text, unless an entry has the text.
-    fn add_text(&mut self, entries: &Entries, key: Key, text: &[u8]) -> usize
-        requires tree { IsTree (keys_of key entries.now.all.items) self.old }
-        requires led { IsLed (keys_of key entries.now.all.items) entries.now.places.items
-            self.old.leads.items }
-        requires room { vec_len self.old.nodes < vec_capacity self.old.nodes }
-        ensures tree { IsTree (keys_of key entries.now.all.items ++ text.now ∷ []) self.new }
-        ensures leads { self.new.leads ≡ self.old.leads }
-        ensures first { IsFirstOf (keys_of key entries.now.all.items ++ text.now ∷ [])
-            text.now result }
-    {
-        let number = entries.all.len();
+        let number = entries.rows.len();
         self.least = self.least.min(text.len());
         let Some(near) = self.near(entries, key, text, text.len()) else {
             self.root = Some(Child::Leaf(number));
@@ -365,23 +339,6 @@ impl Tree {
         };
         self.put(bit, entry, text, number);
         number
-    }
-
-    // Where the first entry of a text leads to.
-    pub(super) fn lead_of(&self, number: usize) -> Option<Lead>
-        requires { number < length self.now.leads.items }
-        ensures { result ≡ lead_at self.now.leads.items number }
-    {
-        self.leads[number]
-    }
-
-    // Has the first entry of a text lead there.
-    pub(super) fn set_lead(&mut self, number: usize, lead: Option<Lead>)
-        requires { number < length self.old.leads.items }
-        ensures tree { (texts : List Text) → IsTree texts self.old → IsTree texts self.new }
-        ensures leads { self.new.leads.items ≡ set self.old.leads.items number lead }
-    {
-        self.leads[number] = lead;
     }
 
     // Where a new text leads above this bit: below which node, on which side, and to which child.
@@ -410,8 +367,7 @@ impl Tree {
         requires added { (texts : List Text) × (n : ℕ)
             × IsAdded texts self.old text.now n bit entry number }
         requires room { vec_len self.old.nodes < vec_capacity self.old.nodes }
-        ensures leads { self.new.leads ≡ self.old.leads }
-        ensures tree { (texts : List Text) (n : ℕ)
+        ensures { (texts : List Text) (n : ℕ)
             → IsAdded texts self.old text.now n bit entry number
             → IsTree (texts ++ text.now ∷ []) self.new }
     {

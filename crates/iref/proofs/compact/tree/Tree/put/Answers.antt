@@ -5,8 +5,8 @@ use Rattle.iref.proofs.PrefixInsertLemmas.{made, grown_above, grown_below, tree_
 use Rattle.iref.proofs.compact.tree.Tree.put.Goals.{then-is_in, else-is_in}
 use Rattle.iref.proofs.compact.tree.Tree.put.Goals as goal
 
-pub returns-clause-tree : goal.returns-clause-tree
-returns-clause-tree c = λ texts n h.
+pub returns : goal.returns
+returns c = λ texts n h.
     let old = c.args.self.now in
     let way = c.way-above.ensures texts n h.new in
     let link : IsWay texts old c.args.text.now n c.args.bit (Some (c.in-Some.at, c.in-Some.side)) c.way-above.result.1 = subst (λ l. IsWay texts old c.args.text.now n c.args.bit l c.way-above.result.1) c.in-Some.is way.0 in
@@ -17,12 +17,12 @@ returns-clause-tree c = λ texts n h.
     let pushed = c.push_reserved.ensures.items in
     let put : c.set_child.new.self ≡ with_child node c.in-Some.side (Inner (length old.nodes.items)) = c.set_child.ensures ∙ ap (λ k. with_child node c.in-Some.side (Inner k)) last in
     tree_grown texts old c.args.text.now n c.args.bit h.new (Some (c.in-Some.at, c.in-Some.side)) c.way-above.result.1 link way.1 _ c.if-is_in.node node_made
-    (grown_below old c.if-is_in.node old.root (with_item c.push_reserved.new.self c.in-Some.at c.set_child.new.self) old.leads old.front old.last c.in-Some.at c.in-Some.side node link.above.0
+    (grown_below old c.if-is_in.node old.root (with_item c.push_reserved.new.self c.in-Some.at c.set_child.new.self) old.front old.last c.in-Some.at c.in-Some.side node link.above.0
     (subst (λ l. node ≡ get_or l c.in-Some.at node) pushed c.index_mut.ensures.value) (λ i. set (pushed i) c.in-Some.at (put i)) refl)
     (record { stays = λ j _. (refl, refl); moves = λ is. cc is })
 
-pub returns-in_default-clause-tree : goal.returns-in_default-clause-tree
-returns-in_default-clause-tree c = λ texts n h.
+pub returns-in_default : goal.returns-in_default
+returns-in_default c = λ texts n h.
     let old = c.args.self.now in
     let way = c.way-above.ensures texts n h.new in
     let link : IsWay texts old c.args.text.now n c.args.bit None c.way-above.result.1 = subst (λ l. IsWay texts old c.args.text.now n c.args.bit l c.way-above.result.1) c.in_default.is way.0 in
@@ -30,7 +30,7 @@ returns-in_default-clause-tree c = λ texts n h.
     (elim c.if-is_in.branch [ then-is_in w ↦ inl (w.if-is_in.true, w.node-is) | else-is_in w ↦ inr (w.if-is_in.false, w.node-is) ]) in
     let last : c.len.result ≡ length old.nodes.items = search rules in
     tree_grown texts old c.args.text.now n c.args.bit h.new None c.way-above.result.1 link way.1 _ c.if-is_in.node node_made
-    (grown_above old c.if-is_in.node _ c.push_reserved.new.self old.leads c.args.bit.at c.byte_before-self.result c.push_reserved.ensures.items (ap (λ k. Some (Inner k)) last))
+    (grown_above old c.if-is_in.node _ c.push_reserved.new.self c.args.bit.at c.byte_before-self.result c.push_reserved.ensures.items (ap (λ k. Some (Inner k)) last))
     (record { stays = λ j is. cc is; moves = λ _. (refl, c.byte_before-self.ensures) })
 
 pub byte_before-self-requires : goal.byte_before-self-requires

@@ -1,7 +1,7 @@
 use Rattle.std.proofs.Common.{rules, ◌≡◌, ℕ, ◌<◌, true, false, sym, subst, MatchOption, None}
 use Rattle.iref.specs.PrefixPlaces.{holds}
 use Rattle.iref.proofs.PrefixSharedLemmas.{no_place, first_place}
-use Rattle.iref.proofs.compact.shared.Shared.first.Goals as goal
+use Rattle.iref.proofs.compact.shared.Shared.least.Goals as goal
 
 pub returns-in_err-pair : goal.returns-in_err-pair
 returns-in_err-pair c =
