@@ -24,13 +24,11 @@ guarded-same context p h = grind arith
 
 -- an empty segment may begin a path only where any list may follow
 empty_first : (context : PathContext) (absolute : Bool) (rest list : List Text) → (absolute && is_one_empty list) ≡ false → reads_as_path context (path absolute ([] ∷ rest)) ≡ true → reads_as_path context (path absolute list) ≡ true
-empty_first context true rest list lone h = grind arith
-empty_first context false rest list lone h = absurd (true≢false (sym h))
+empty_first context absolute rest list lone h = grind arith
 
 -- whether a path may stand there, its first segment decides
 same_first : (context : PathContext) (absolute : Bool) (s : Text) (rest more : List Text) → (absolute && is_one_empty (s ∷ more)) ≡ false → reads_as_path context (path absolute (s ∷ rest)) ≡ true → reads_as_path context (path absolute (s ∷ more)) ≡ true
-same_first context true s rest more lone h = grind arith
-same_first context false s rest more lone h = h
+same_first context absolute s rest more lone h = grind arith
 
 follows_too : (context : PathContext) (absolute : Bool) (s : Text) (rest list : List Text) → follows_authority context (path absolute (s ∷ rest)) ≡ true → follows_authority context (path absolute list) ≡ true
 follows_too context absolute s rest list h = grind arith

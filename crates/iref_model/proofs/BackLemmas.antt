@@ -6,6 +6,7 @@ use Rattle.iref_grammar.specs.{Rules.{Text}, Texts.{is_empty}, PathValue.{PathVa
 use Rattle.iref_model.specs.NormalList.{is_dot_dot, is_name, counted, without_lone_empty, normal_segments}
 use Rattle.iref_model.specs.NormalReading.{open_before, staying_before, leading_parents, items}
 use Rattle.iref_model.specs.CountedEquality.{ItemRead, last_read, item_before, items_read, all_items_read}
+use Rattle.iref_model.proofs.FitsLemmas.{is_empty-append}
 use Rattle.iref_model.proofs.StayingLemmas.{open_before-append, staying_before-append}
 use Rattle.iref_model.proofs.ItemLemmas.{ends-last, normal_segments-is}
 
@@ -48,13 +49,9 @@ items_read-is absolute behind (s ∷ before) =
 all_items_of_some : (absolute : Bool) (s : Text) (before : List Text) → map item_of (all_items_read absolute (s ∷ before)) ≡ reverse (items (record { absolute = absolute; segments = reverse (s ∷ before) }))
 all_items_of_some absolute s before = grind (arith, common_steps, reverse-cons, open_before-append, staying_before-append, ends-last, items_read-is)
 
-is_empty-middle : (front : List Text) (s : Text) (back : List Text) → is_empty (front ++ s ∷ back) ≡ false
-is_empty-middle [] s back = refl
-is_empty-middle (t ∷ front) s back = refl
-
 not_one : (front : List Text) (s t : Text) → is_one_empty (front ++ s ∷ t ∷ []) ≡ false
 not_one [] s t = and-false (is_empty s)
-not_one (u ∷ front) s t = ap (λ b. is_empty u && b) (is_empty-middle front s (t ∷ [])) ∙ and-false (is_empty u)
+not_one (u ∷ front) s t = ap (λ b. is_empty u && b) (is_empty-append front s (t ∷ [])) ∙ and-false (is_empty u)
 
 -- one empty item set aside, on either side of a reversal
 pub lone-reverse : (list : List Text) → without_lone_empty (reverse list) ≡ reverse (without_lone_empty list)

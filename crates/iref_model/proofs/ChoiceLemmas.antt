@@ -1,5 +1,5 @@
 -- The choice among the candidates: it finds one where there is one, and the shortest.
-use Rattle.std.proofs.Common.{arith, ◌≡◌, ℕ, ◌≤◌, Bool, true, false, ◌&&◌, ◌||◌, List, [], ◌∷◌, ◌++◌, length, nat_le, refl, sym, ◌∙◌, ap, Option, Some, None, is_some, true≢false}
+use Rattle.std.proofs.Common.{arith, ◌≡◌, ℕ, ◌≤◌, Bool, true, false, ◌&&◌, ◌||◌, List, [], ◌∷◌, ◌++◌, length, nat_le, ◌∙◌, ap, Option, Some, None, is_some}
 use Rattle.std.proofs.{lemmas.List.Folds.{list_any-append}, lemmas.Bool.{and_from}, lemmas.Bool.Decides.{nat_tests}}
 use Rattle.std.proofs.lemmas.Slice.Eq.{bytes_eq-Decides}
 use Rattle.std.specs.List.{list_any, list_all}
@@ -23,20 +23,17 @@ is_at_most n None = false
 is_at_most n (Some r) = nat_le (length (spell r)) n
 
 keeps_least : (n : ℕ) (r : ReferenceValue) (o : Option ReferenceValue) → (nat_le (length (spell r)) n || is_at_most n o) ≡ true → is_at_most n (shorter r o) ≡ true
-keeps_least n r None h = grind arith
-keeps_least n r (Some s) h = grind arith
+keeps_least n r o h = grind arith
 
 least_of : (target base : ReferenceValue) (n : ℕ) (list : List ReferenceValue) → list_any (serves target base n) list ≡ true → is_at_most n (shortest_exact target base list) ≡ true
 least_of target base n [] h = grind arith
 least_of target base n (r ∷ rest) h = grind (arith, keeps_least n r (shortest_exact target base rest), least_of target base n rest)
 
 at_most-is : (n : ℕ) (o : Option ReferenceValue) (r : ReferenceValue) → is_at_most n o ≡ true → o ≡ Some r → length (spell r) ≤ n
-at_most-is n None r h e = absurd (true≢false (sym h))
-at_most-is n (Some s) r h e = grind (arith, nat_tests)
+at_most-is n o r h e = grind (arith, nat_tests)
 
 at_most-some : (n : ℕ) (o : Option ReferenceValue) → is_at_most n o ≡ true → is_some o ≡ true
-at_most-some n None h = h
-at_most-some n (Some s) h = refl
+at_most-some n o h = grind arith
 
 pub served-some : (target base : ReferenceValue) (n : ℕ) → list_any (serves target base n) (candidates target base) ≡ true → is_some (relativized target base) ≡ true
 unfolding relativized

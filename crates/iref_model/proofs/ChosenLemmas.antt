@@ -1,5 +1,5 @@
 -- The answer is chosen by tests: which of the candidates is shorter mostly follows from what they leave out.
-use Rattle.std.proofs.Common.{◌≡◌, suc, ◌+◌, ◌<◌, ◌≤◌, nat_lt, Bool, true, false, not, cond, ◌&&◌, ◌||◌, List, [], ◌∷◌, ◌++◌, length, length-append, append_assoc, refl, sym, ◌∙◌, ap, arith, Option, Some, None, is_some, true≢false}
+use Rattle.std.proofs.Common.{◌≡◌, suc, ◌+◌, ◌<◌, ◌≤◌, nat_lt, Bool, true, false, not, cond, ◌&&◌, ◌||◌, List, [], ◌∷◌, ◌++◌, length, append_assoc, refl, sym, ◌∙◌, ap, arith, Option, Some, None, is_some, true≢false}
 use Rattle.std.proofs.{lemmas.Bool.{and_parts}, lemmas.Bool.Decides.{nat_tests}, lemmas.Slice.Eq.{bytes_eq-Decides}}
 use Rattle.std.proofs.Math.Bool.{and-false, and-true}
 use Rattle.iref_grammar.specs.{declared.context.PathContext.{PathContext}, Characters.{CharTests}, Rules.{Text}}
@@ -13,6 +13,7 @@ use Rattle.iref_model.specs.Relativized.{same_scheme_text, same_authority_text, 
 use Rattle.iref_model.specs.{RelativizedLaws.{AreReadable}, RelativizedTests.{is_settled, is_reachable, shortest}}
 use Rattle.iref_model.specs.RelativizedChoice.{chosen, shorter_of, with_a_path}
 use Rattle.iref_model.proofs.{JoinedLemmas.{climbs}, RelativeLemmas.{parts}, TestedLemmas.{relativized-tested}}
+use Rattle.iref_model.proofs.CandidateLemmas.{length-spell}
 use Rattle.iref_model.proofs.WalkLemmas.{climb-is}
 use Rattle.iref_model.proofs.WeightLemmas.{path, weight, weight-append, weight-climbs, length-path}
 
@@ -45,47 +46,11 @@ climb_shorter list h =
     let b = length-path false list in
     omega arith
 
--- ---- references
-
--- without the parts before the path it is not longer
-fewer_parts : (scheme : Option Text) (authority : Option AuthorityValue) (p : PathValue) (query fragment : Option Text)
-    → length (spell (parts None authority p query fragment)) ≤ length (spell (parts scheme authority p query fragment))
-unfolding spell
-fewer_parts scheme authority p query fragment = simp length-append (omega arith)
-
--- nor without all of them
-fragment_least : (scheme : Option Text) (authority : Option AuthorityValue) (p : PathValue) (query fragment : Option Text)
-    → length (spell (parts None None empty_path None fragment)) ≤ length (spell (parts scheme authority p query fragment))
-unfolding spell spell_path
-fragment_least scheme authority p query fragment = simp length-append (omega arith)
-
-tail_least : (scheme : Option Text) (authority : Option AuthorityValue) (p : PathValue) (query fragment : Option Text)
-    → length (spell (parts None None empty_path query fragment)) ≤ length (spell (parts scheme authority p query fragment))
-unfolding spell spell_path
-tail_least scheme authority p query fragment = simp length-append (omega arith)
-
--- two bytes more in the path are less than an authority
-path_for_authority : (scheme : Option Text) (a : AuthorityValue) (p other : PathValue) (query fragment : Option Text) → length (spell_path p) ≤ length (spell_path other) + 2
-    → length (spell (parts None None p query fragment)) ≤ length (spell (parts scheme (Some a) other query fragment))
-unfolding spell
-path_for_authority scheme a p other query fragment h = simp length-append (omega arith)
-
-path_for_scheme : (scheme : Option Text) (p other : PathValue) (query fragment : Option Text) → length (spell_path p) ≤ length (spell_path other)
-    → length (spell (parts None None p query fragment)) ≤ length (spell (parts scheme None other query fragment))
-unfolding spell
-path_for_scheme scheme p other query fragment h = simp length-append (omega arith)
-
-path_shorter : (scheme : Option Text) (authority : Option AuthorityValue) (p other : PathValue) (query fragment : Option Text) → length (spell_path p) < length (spell_path other)
-    → length (spell (parts scheme authority p query fragment)) < length (spell (parts scheme authority other query fragment))
-unfolding spell
-path_shorter scheme authority p other query fragment h = simp length-append (omega arith)
+no_path : length (spell_path empty_path) ≡ 0
+unfolding spell_path
+no_path = refl
 
 -- ---- the choice
-
--- a list that begins with a reference where a condition holds
-shortest-only : (condition : Bool) (r : ReferenceValue) (rest : List ReferenceValue) → shortest (only_if condition r ++ rest) ≡ cond condition (shorter r (shortest rest)) (shortest rest)
-shortest-only true r rest = refl
-shortest-only false r rest = refl
 
 -- of two as long the first
 first_kept : (r other : ReferenceValue) → length (spell r) ≤ length (spell other) → shorter r (Some other) ≡ Some r
@@ -95,11 +60,7 @@ second_kept : (r other : ReferenceValue) → length (spell other) < length (spel
 second_kept r other h = grind (arith, nat_tests)
 
 both_compared : (r other : ReferenceValue) → shorter r (Some other) ≡ Some (shorter_of r other)
-both_compared r other = by (nat_lt (length (spell other)) (length (spell r)))
-  where
-    by : (less : Bool) → cond less (Some other) (Some r) ≡ Some (cond less other r)
-    by true = refl
-    by false = refl
+both_compared r other = grind arith
 
 -- what holds of both holds of either
 of_either : (Holds : ReferenceValue → Type 0) (condition : Bool) (r other : ReferenceValue) → Holds r → Holds other → Holds (cond condition r other)
@@ -145,32 +106,16 @@ module _ (relative rooted after_scheme whole climb : ReferenceValue) (same reach
   module _ (short_climb : c7 ≡ true → length (spell climb) < length (spell whole)) (short_scheme : c5 ≡ true → length (spell after_scheme) ≤ length (spell full))
       (short_root : c4 ≡ true → length (spell rooted) ≤ length (spell (cond c5 after_scheme full))) where
     from_whole : shortest (whole ∷ only_if c7 climb) ≡ Some full
-    from_whole = by c7 refl
-      where
-        by : (c : Bool) → c7 ≡ c → shortest (whole ∷ only_if c climb) ≡ Some (cond c climb whole)
-        by true e = second_kept whole climb (short_climb e)
-        by false e = refl
+    from_whole = grind (arith, second_kept)
 
     from_scheme : shortest (only_if c5 after_scheme ++ whole ∷ only_if c7 climb) ≡ Some (cond c5 after_scheme full)
-    from_scheme = by c5 refl
-      where
-        by : (c : Bool) → c5 ≡ c → shortest (only_if c after_scheme ++ whole ∷ only_if c7 climb) ≡ Some (cond c after_scheme full)
-        by true e = ap (shorter after_scheme) from_whole ∙ first_kept after_scheme full (short_scheme e)
-        by false e = from_whole
+    from_scheme = grind (arith, from_whole, first_kept)
 
     from_root : shortest (only_if c4 rooted ++ only_if c5 after_scheme ++ whole ∷ only_if c7 climb) ≡ Some own_path
-    from_root = by c4 refl
-      where
-        by : (c : Bool) → c4 ≡ c → shortest (only_if c rooted ++ only_if c5 after_scheme ++ whole ∷ only_if c7 climb) ≡ Some (cond c rooted (cond c5 after_scheme full))
-        by true e = ap (shorter rooted) from_scheme ∙ first_kept rooted (cond c5 after_scheme full) (short_root e)
-        by false e = from_scheme
+    from_root = grind (arith, from_scheme, first_kept)
 
     from_relative : shortest (only_if (same && reachable) relative ++ only_if c4 rooted ++ only_if c5 after_scheme ++ whole ∷ only_if c7 climb) ≡ Some shortest_path
-    from_relative = by (same && reachable)
-      where
-        by : (c : Bool) → shortest (only_if c relative ++ only_if c4 rooted ++ only_if c5 after_scheme ++ whole ∷ only_if c7 climb) ≡ Some (cond c (shorter_of relative own_path) own_path)
-        by true = ap (shorter relative) from_root ∙ both_compared relative own_path
-        by false = from_root
+    from_relative = grind (arith, from_root, both_compared)
 
     some_settled : shortest (candidates_if true) ≡ Some shortest_path
     some_settled =
@@ -244,24 +189,24 @@ module _ (target base : ReferenceValue) (follows : follows_authority (context_of
 
   module _ (settled : is_settled target ≡ true) where
     climb_light : climbs_up ≡ true → length (spell (climb_shortened target)) < length (spell target)
-    climb_light h = path_shorter target.scheme target.authority (climb_shortened target).path target.path target.query target.fragment (short_climb_path target settled h)
+    climb_light h = let short = short_climb_path target settled h in omega (arith, length-spell)
 
     -- nor is a scheme left out before one
     scheme_light : (same_scheme_text target base && is_some target.authority) ≡ true → length (spell after_scheme) ≤ length (spell (cond climbs_up (climb_shortened target) target))
     scheme_light h =
         let none = no_climb (and_parts (same_scheme_text target base) (is_some target.authority) h).1 in
-        let fewer = fewer_parts target.scheme target.authority target.path target.query target.fragment in
         let same = ap (λ c. length (spell (cond c (climb_shortened target) target))) none in
-        omega (arith, same)
+        omega (arith, length-spell, same)
 
     root_light-scheme : (authority : Option AuthorityValue) → target.authority ≡ authority → target.path.absolute ≡ true
         → length (spell rooted) ≤ length (spell (parts target.scheme authority target.path target.query target.fragment))
-    root_light-scheme None e flag = path_for_scheme target.scheme rooted.path target.path target.query target.fragment (rootless_authority target (ap is_some e) flag settled)
-    root_light-scheme (Some a) e flag = path_for_authority target.scheme a rooted.path target.path target.query target.fragment (short_root_path target settled flag)
+    root_light-scheme None e flag =
+        let short = rootless_authority target (ap is_some e) flag settled in omega (arith, length-spell)
+    root_light-scheme (Some a) e flag = let short = short_root_path target settled flag in omega (arith, length-spell)
 
     root_light-authority : (authority : Option AuthorityValue) → is_some authority ≡ true → target.path.absolute ≡ true → length (spell rooted) ≤ length (spell (parts None authority target.path target.query target.fragment))
     root_light-authority None some flag = absurd (true≢false (sym some))
-    root_light-authority (Some a) some flag = path_for_authority None a rooted.path target.path target.query target.fragment (short_root_path target settled flag)
+    root_light-authority (Some a) some flag = let short = short_root_path target settled flag in omega (arith, length-spell)
 
     root_light : (same_authority_text target base && target.path.absolute) ≡ true
         → length (spell rooted) ≤ length (spell (cond (same_scheme_text target base && is_some target.authority) after_scheme (cond climbs_up (climb_shortened target) target)))
@@ -311,12 +256,12 @@ module _ (target base : ReferenceValue) (follows : follows_authority (context_of
   the_tail : (tail settled : Bool) → is_settled target ≡ settled → shortest (with_tail tail settled) ≡ tail_or_path tail settled
   the_tail true settled e =
       ap (shorter (with_only_path empty_path target)) (the_path settled e)
-      ∙ before_paths (with_only_path empty_path target) (λ scheme authority p. tail_least scheme authority p target.query target.fragment) settled
+      ∙ before_paths (with_only_path empty_path target) (λ scheme authority p. omega (arith, length-spell, no_path)) settled
   the_tail false settled e = the_path settled e
 
   before_tail : (tail settled : Bool) → shorter (fragment_alone target) (tail_or_path tail settled) ≡ Some (fragment_alone target)
-  before_tail true settled = first_kept (fragment_alone target) (with_only_path empty_path target) (fragment_least None None empty_path target.query target.fragment)
-  before_tail false settled = before_paths (fragment_alone target) (λ scheme authority p. fragment_least scheme authority p target.query target.fragment) settled
+  before_tail true settled = first_kept (fragment_alone target) (with_only_path empty_path target) (omega (arith, length-spell, no_path))
+  before_tail false settled = before_paths (fragment_alone target) (λ scheme authority p. omega (arith, length-spell, no_path)) settled
 
   the_fragment : (alone_serves tail settled : Bool) → is_settled target ≡ settled →
       shortest (only_if alone_serves (fragment_alone target) ++ only_if tail (with_only_path empty_path target)

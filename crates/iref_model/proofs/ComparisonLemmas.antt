@@ -7,6 +7,7 @@ use Rattle.iref_grammar.specs.{Rules.{Text}, Texts.{is_empty}}
 use Rattle.iref_model.specs.{PathSuffix.{same_decoded}, NormalList.{is_dot_dot, is_name, counted, without_lone_empty}}
 use Rattle.iref_model.specs.CountedEquality.{ItemRead, Comparison, last_read, item_before, items_read, all_items_read, items_compared}
 use Rattle.iref_model.proofs.BackLemmas.{item_of, items-last}
+use Rattle.iref_model.proofs.LeadingLemmas.{decoded}
 
 -- Each item of the list is the next item of F on any list that begins with the segments seen, whatever comes after them;
 -- and where none is left unread, nothing comes after them.
@@ -44,9 +45,6 @@ reads-all_items_read absolute (s ∷ before) =
     (s ∷ [], items_of absolute n, refl, λ more k. refl, reads-items_read absolute n before)
 
 -- ---- two lists side by side
-
-abbrev pub decoded : List Text → List Text
-decoded list = map percent_decode list
 
 -- What the comparison has read of both decides that the items differ.
 pub record AreReadApart (F G : List Text → List Text) (r q : List Text) (left right : List Text) : Type 0 where

@@ -3,11 +3,11 @@ use Rattle.std.proofs.Common.{◌≡◌, ℕ, ◌+◌, ◌-◌, ◌≤◌, Bool,
 use Rattle.std.proofs.lemmas.List.{reverse-append, reverse-reverse, length-append, length-reverse, take-append-drop}
 use Rattle.std.proofs.{lemmas.Grind.{common_steps}, Math.Seq.{drop-append_seam}}
 use mathlib.Core.Bool.{true≢false, beq}
-use Rattle.iref_grammar.specs.{Rules.{Text}, Texts.{is_empty}, PathValue.{PathValue}}
+use Rattle.iref_grammar.specs.{Rules.{Text}, PathValue.{PathValue}}
 use Rattle.iref_model.specs.{NormalList.{without_lone_empty, normal_segments}, PathKey.{path_key}}
 use Rattle.iref_model.specs.CountedEquality.{EndsAlike, AreFoundApart, IsCountedAnswer, Comparison, all_items_read, items_compared, paths_compared, segments_read}
-use Rattle.iref_model.proofs.BackLemmas.{item_of, all_items_read-is}
-use Rattle.iref_model.proofs.ComparisonLemmas.{decoded, reads-all_items_read, AreReadApart, read_apart, read_equal, lone_equal, lone_same}
+use Rattle.iref_model.proofs.{BackLemmas.{item_of, all_items_read-is}, LeadingLemmas.{decoded}}
+use Rattle.iref_model.proofs.ComparisonLemmas.{reads-all_items_read, AreReadApart, read_apart, read_equal, lone_equal, lone_same}
 
 map-reverse : (list : List Text) → decoded (reverse list) ≡ reverse (decoded list)
 map-reverse [] = refl
@@ -20,18 +20,8 @@ read_items absolute back = map item_of (all_items_read absolute back)
 key_back : (p : PathValue) → decoded (without_lone_empty (read_items p.absolute (reverse p.segments))) ≡ reverse (decoded (normal_segments p))
 key_back p = grind (arith, common_steps, decoded, all_items_read-is, map-reverse)
 
--- a path has an item
-some_item : (absolute : Bool) (back : List Text) → is_empty (read_items absolute back) ≡ false
-some_item absolute [] = refl
-some_item absolute (s ∷ back) = refl
-
-same_with_lone : (xs ys : List Text) → is_empty xs ≡ false → is_empty ys ≡ false → decoded (without_lone_empty xs) ≡ decoded (without_lone_empty ys) → decoded xs ≡ decoded ys
-same_with_lone [] ys h k e = absurd (true≢false h)
-same_with_lone (x ∷ xs) [] h k e = absurd (true≢false k)
-same_with_lone (x ∷ xs) (y ∷ ys) h k e = lone_same x y xs ys e
-
 equal_items : (a b : Bool) (x y : List Text) → decoded (without_lone_empty (read_items a x)) ≡ decoded (without_lone_empty (read_items b y)) → decoded (read_items a x) ≡ decoded (read_items b y)
-equal_items a b x y e = same_with_lone (read_items a x) (read_items b y) (some_item a x) (some_item b y) e
+equal_items a b x y e = grind (arith, lone_same)
 
 abbrev SeenBack : List Text → List Text → List Text → Type 0
 SeenBack seen left other = (more : List Text) × (reverse other ≡ seen ++ more) × (left ≡ [] → more ≡ [])

@@ -32,14 +32,6 @@ last_slash (c ∷ cs) = by (last_slash cs)
 abbrev is_other : ℕ → Bool
 is_other c = not (c == slash)
 
-all_other : (text : Text) → lacks slash text ≡ list_all is_other text
-all_other [] = refl
-all_other (c ∷ cs) = grind (arith, all_other cs)
-
-all_reversed : (text : Text) → list_all is_other text ≡ true → list_all is_other (reverse text) ≡ true
-all_reversed [] h = refl
-all_reversed (c ∷ cs) h = grind (arith, common_steps, all_reversed cs)
-
 stops_at_slash : (front back : Text) → list_all is_other front ≡ true → prefix_len is_other (front ++ slash ∷ back) ≡ length front
 stops_at_slash [] back h = refl
 stops_at_slash (c ∷ cs) back h = grind (arith, stops_at_slash cs back)
@@ -49,7 +41,8 @@ stops_at_end [] h = refl
 stops_at_end (c ∷ cs) h = grind (arith, stops_at_end cs)
 
 reversed_lacks : (text : Text) → lacks slash text ≡ true → list_all is_other (reverse text) ≡ true
-reversed_lacks text h = all_reversed text (sym (all_other text) ∙ h)
+reversed_lacks [] h = refl
+reversed_lacks (c ∷ cs) h = grind (arith, common_steps, reversed_lacks cs)
 
 directory_text-cut : (front back : Text) → lacks slash back ≡ true → directory_text (front ++ slash ∷ back) ≡ front ++ slash ∷ []
 unfolding directory_text

@@ -5,6 +5,7 @@ use Rattle.std.proofs.{lemmas.List.Sums.{common_prefix_len-le}, Math.Seq.{take-a
 use Rattle.iref_grammar.specs.{Rules.{Text}, Texts.{is_empty, all_but_last}, PathValue.{PathValue}}
 use Rattle.iref_model.specs.NormalList.{is_name, staying_names, without_lone_empty, normal_segments, open_parents}
 use Rattle.iref_model.specs.Relative.{last_or_empty}
+use Rattle.iref_model.proofs.FitsLemmas.{is_empty-append}
 use Rattle.iref_model.proofs.JoinedLemmas.{without_last, are_names, are_names-staying, climbs}
 use Rattle.iref_model.proofs.{SettledLemmas.{leading, open-settled}, LeadingLemmas.{divided_last, all_drop}}
 use Rattle.iref_model.proofs.WalkLemmas.{ended, ended-names, reached, normal-walk}
@@ -29,10 +30,6 @@ pub record IsDivided (absolute : Bool) (directory : List Text) (parents : ℕ) (
   pub leads :
       reached absolute directory (open_parents (steps_from more (climbs higher ++ s ∷ rest))) (ended (steps_from more (climbs higher ++ s ∷ rest)))
       ≡ reached absolute directory parents (s ∷ rest)
-
-pub is_empty-append : (front : List Text) (s : Text) (rest : List Text) → is_empty (front ++ s ∷ rest) ≡ false
-is_empty-append [] s rest = refl
-is_empty-append (f ∷ front) s rest = refl
 
 -- ---- what the steps to a list of names add
 

@@ -1,5 +1,5 @@
 -- The answer leads to the target's text.
-use Rattle.std.proofs.Common.{arith, ◌≡◌, true, List, [], ◌∷◌, refl, Option, Some, None}
+use Rattle.std.proofs.Common.{arith, ◌≡◌, true, List, [], ◌∷◌, Option, Some}
 use Rattle.std.proofs.lemmas.Slice.Eq.{bytes_eq-Decides}
 use Rattle.iref_grammar.specs.Reference.{ReferenceValue, spell}
 use Rattle.iref_model.specs.Resolution.{resolved}
@@ -7,8 +7,7 @@ use Rattle.iref_model.specs.Relativized.{is_exact, shorter, shortest_exact, cand
 
 one_of_both : (target base r : ReferenceValue) (o : Option ReferenceValue) (answer : ReferenceValue) → is_exact target base r ≡ true
     → ((s : ReferenceValue) → o ≡ Some s → is_exact target base s ≡ true) → shorter r o ≡ Some answer → is_exact target base answer ≡ true
-one_of_both target base r None answer exact rest h = grind arith
-one_of_both target base r (Some s) answer exact rest h = let other = rest s refl in grind arith
+one_of_both target base r o answer exact rest h = grind arith
 
 shortest_exact-exact : (target base : ReferenceValue) (list : List ReferenceValue) (answer : ReferenceValue) → shortest_exact target base list ≡ Some answer → is_exact target base answer ≡ true
 shortest_exact-exact target base [] answer h = grind arith

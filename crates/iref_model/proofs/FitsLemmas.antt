@@ -1,5 +1,5 @@
 -- Each step of a path keeps it readable where it stands.
-use Rattle.std.proofs.Common.{arith, ◌≡◌, Bool, true, false, cond, ◌||◌, List, [], ◌∷◌, ◌++◌, fold, refl}
+use Rattle.std.proofs.Common.{arith, ◌≡◌, Bool, true, false, cond, List, [], ◌∷◌, ◌++◌, fold, refl}
 use Rattle.std.proofs.lemmas.Grind.{common_steps}
 use Rattle.iref_grammar.specs.{declared.context.PathContext.{PathContext}, Rules.{Text}, Texts.{is_empty, all_but_last}}
 use Rattle.iref_grammar.specs.{PathValue.{PathValue}, Contexts.{fits}}
@@ -7,21 +7,16 @@ use Rattle.iref_model.specs.{Guard.{guarded_list}, NormalList.{normal}}
 use Rattle.iref_model.specs.PathSteps.{lazy_pushed, popped, closed_path, followed, pushed, appended, lazy_appended, replaced, joined, normalized, cleared}
 use Rattle.iref_model.proofs.GuardLemmas.{guarded-fits}
 
-pub is_empty-snoc : (ts : List Text) (s : Text) → is_empty (ts ++ s ∷ []) ≡ false
-is_empty-snoc [] s = refl
-is_empty-snoc (t ∷ ts) s = refl
+pub is_empty-append : (front : List Text) (s : Text) (rest : List Text) → is_empty (front ++ s ∷ rest) ≡ false
+is_empty-append [] s rest = refl
+is_empty-append (f ∷ front) s rest = refl
 
-fits-snoc : (context : PathContext) (absolute : Bool) (t : Text) (ts : List Text) (s : Text) → fits context (record { absolute = absolute; segments = t ∷ ts }) ≡ true → fits context (record { absolute = absolute; segments = t ∷ ts ++ s ∷ [] }) ≡ true
-fits-snoc context absolute t ts s h = grind arith
+pub is_empty-snoc : (ts : List Text) (s : Text) → is_empty (ts ++ s ∷ []) ≡ false
+is_empty-snoc ts s = is_empty-append ts s []
 
 -- the empty list fits everywhere
 fits-nil : (context : PathContext) (absolute : Bool) → fits context (record { absolute = absolute; segments = [] }) ≡ true
 fits-nil context absolute = grind arith
-
--- the same first segment, and other segments after it
-fits-rest : (context : PathContext) (absolute : Bool) (s : Text) (rest other : List Text) → fits context (record { absolute = absolute; segments = s ∷ rest }) ≡ true → fits context (guarded_list (record { absolute = absolute; segments = s ∷ other })) ≡ true
-unfolding guarded_list
-fits-rest context absolute s rest other h = grind arith
 
 fits-cond : (context : PathContext) (b : Bool) (p q : PathValue) → fits context p ≡ true → fits context q ≡ true → fits context (cond b p q) ≡ true
 fits-cond context true p q h k = h
@@ -29,24 +24,13 @@ fits-cond context false p q h k = k
 
 -- ---- the steps
 
-lazy_pushed_on : (context : PathContext) (s : Text) (absolute : Bool) (segments : List Text) → let p : PathValue = record { absolute = absolute; segments = segments } in fits context p ≡ true → fits context (lazy_pushed context s p) ≡ true
-unfolding lazy_pushed Rattle.iref_model.specs.Guard.guarded
-lazy_pushed_on context s absolute [] h = guarded-fits context (record { absolute = absolute || context.has_authority; segments = s ∷ [] })
-lazy_pushed_on context s absolute (t ∷ ts) h = fits-snoc context absolute t ts s h
-
 pub lazy_pushed-fits : (context : PathContext) (s : Text) (p : PathValue) → fits context p ≡ true → fits context (lazy_pushed context s p) ≡ true
-lazy_pushed-fits context s p h = lazy_pushed_on context s p.absolute p.segments h
-
-shortened_on : (context : PathContext) (absolute : Bool) (segments : List Text) → let p : PathValue = record { absolute = absolute; segments = segments } in fits context p ≡ true → fits context (guarded_list (record { absolute = absolute; segments = all_but_last segments })) ≡ true
-unfolding guarded_list
-shortened_on context true [] h = h
-shortened_on context false [] h = h
-shortened_on context true (s ∷ []) h = fits-nil context true
-shortened_on context false (s ∷ []) h = fits-nil context false
-shortened_on context absolute (s ∷ t ∷ rest) h = fits-rest context absolute s (t ∷ rest) (all_but_last (t ∷ rest)) h
+unfolding lazy_pushed
+lazy_pushed-fits context s p h = grind (arith, common_steps, guarded-fits)
 
 pub shortened-fits : (context : PathContext) (p : PathValue) → fits context p ≡ true → fits context (guarded_list (record { absolute = p.absolute; segments = all_but_last p.segments })) ≡ true
-shortened-fits context p h = shortened_on context p.absolute p.segments h
+unfolding guarded_list
+shortened-fits context p h = grind arith
 
 pub popped-fits : (context : PathContext) (p : PathValue) → fits context p ≡ true → fits context (popped context p) ≡ true
 unfolding popped

@@ -1,7 +1,7 @@
 -- The host of an IPv6 number is a host, and is read as this number.
-use Rattle.std.proofs.Common.{◌≡◌, ℕ, zero, suc, ◌+◌, ◌*◌, ◌-◌, ◌/◌, ◌%◌, ◌^◌, ◌<◌, ◌≤◌, ◌++◌, true, false, cond, ◌||◌, List, [], ◌∷◌, length, take, drop, map, replicate, refl, sym, ap, ◌∙◌, subst, inl, inr, ◌⊎◌, ◌≢◌, lit<, lit≤, append_assoc, length-drop, arith, lt_trans, Some, None, is_some, option_and_then, ◌==◌, nat_le, codes}
+use Rattle.std.proofs.Common.{◌≡◌, ℕ, zero, suc, ◌+◌, ◌-◌, ◌/◌, ◌%◌, ◌^◌, ◌<◌, ◌≤◌, ◌++◌, true, false, cond, ◌||◌, List, [], ◌∷◌, length, take, drop, map, replicate, refl, sym, ap, ◌∙◌, inl, inr, ◌⊎◌, lit<, lit≤, append_assoc, length-drop, arith, lt_trans, Some, None, is_some, option_and_then, nat_le, codes}
 use Rattle.std.proofs.{lemmas.List.{length-take}, lemmas.Fmt.{digits_is_IsNumeral}}
-use Rattle.std.proofs.{lemmas.Bool.Decides.{nat_tests, eqb_tells, leb_tells}, lemmas.Bool.{and_from}}
+use Rattle.std.proofs.{lemmas.Bool.Decides.{nat_tests, leb_tells}, lemmas.Bool.{and_from}}
 use Rattle.std.specs.List.{AllZip, list_all}
 use Rattle.std.specs.{Fmt.{digits, digits_onto}, Char.{is_ascii_hexdigit, digit_value}, Str.Parse.{AllDigits}}
 use Rattle.iref_grammar.specs.{Characters.{CharTests}, Rules.{Text}}
@@ -17,23 +17,8 @@ use Rattle.iref_model.proofs.ZeroRunLemmas.{first_longest_run}
 
 length-digits : (k j n : ℕ) (after : Text) → n < 16 ^ suc j → length (digits_onto k 16 false n after) ≤ suc j + length after
 length-digits zero j n after h = omega arith
-length-digits (suc k) j n after h = by (eqb_tells (n / 16) 0) j h (length-digits k)
-  where
-    more : Text
-    more = Rattle.std.specs.Fmt.digit_glyph false (n % 16) ∷ after
-
-    none : n / 16 ≢ 0 → n < 16 → ⊥
-    none e h' = omega arith
-
-    narrower : (p : ℕ) → n < p * 16 → n / 16 < p
-    narrower p h' = omega arith
-
-    by : ((n / 16 == 0) ≡ true) × (n / 16 ≡ 0) ⊎ ((n / 16 == 0) ≡ false) × (n / 16 ≢ 0) → (j : ℕ) → n < 16 ^ suc j
-        → ((j m : ℕ) (after : Text) → m < 16 ^ suc j → length (digits_onto k 16 false m after) ≤ suc j + length after)
-        → length (digits_onto (suc k) 16 false n after) ≤ suc j + length after
-    by (inl e) j h' shorter = subst (λ b. length (cond b more (digits_onto k 16 false (n / 16) more)) ≤ suc j + length after) (sym e.0) (omega arith)
-    by (inr e) zero h' shorter = absurd (none e.1 h')
-    by (inr e) (suc j) h' shorter = grind arith
+length-digits (suc k) zero n after h = grind arith
+length-digits (suc k) (suc j) n after h = grind (arith, length-digits k j (n / 16))
 
 hexdigit : (c : ℕ) → digit_value c < 16 → is_ascii_hexdigit c ≡ true
 hexdigit c h = grind (arith, nat_tests)

@@ -5,7 +5,7 @@ use Rattle.iref_grammar.specs.{Rules.{Text}, Texts.{is_empty}, PathValue.{PathVa
 use Rattle.iref_model.specs.NormalList.{is_dot_dot, is_name, ends_in_dots, without_lone_empty, kept_segments, normal_segments}
 use Rattle.iref_model.specs.NormalReading.{open_before, staying_before, leading_parents, closing, items}
 use Rattle.iref_model.proofs.{NormalLemmas.{excess-is}, StayingLemmas.{open_parents-is, staying_names-is}}
-use Rattle.iref_model.proofs.SettledLemmas.{last_stays}
+use Rattle.iref_model.proofs.SettledLemmas.{ends-append, last_stays}
 
 -- a name is no `..`
 pub name_no_parent : (s : Text) → is_name s ≡ true → is_dot_dot s ≡ false
@@ -13,9 +13,7 @@ name_no_parent s h = grind arith
 
 -- the last segment decides whether a list ends in `.` or `..`
 pub ends-last : (front : List Text) (s : Text) → ends_in_dots (front ++ s ∷ []) ≡ not (is_name s)
-ends-last [] s = refl
-ends-last (t ∷ []) s = refl
-ends-last (t ∷ u ∷ front) s = ends-last (u ∷ front) s
+ends-last front s = ends-append front s []
 
 kept-read : (absolute : Bool) (segments : List Text) → kept_segments (record { absolute = absolute; segments = segments }) ≡ leading_parents absolute (open_before segments 0) ++ staying_before segments 0
 kept-read absolute segments = grind (arith, common_steps, excess-is, open_parents-is, staying_names-is)
@@ -30,7 +28,4 @@ pub some_name : (s : Text) (rest : List Text) → is_empty (staying_before (s �
 some_name s rest = by (ends_in_dots (s ∷ rest)) refl (staying_before (s ∷ rest) 0) (λ e. ap is_empty (sym (staying_names-is (s ∷ rest))) ∙ last_stays s rest e)
   where
     by : (ends : Bool) → ends_in_dots (s ∷ rest) ≡ ends → (xs : List Text) → (ends_in_dots (s ∷ rest) ≡ false → is_empty xs ≡ false) → is_empty (xs ++ closing ends) ≡ false
-    by true e [] h = refl
-    by true e (x ∷ xs) h = refl
-    by false e [] h = h e
-    by false e (x ∷ xs) h = refl
+    by ends e xs h = grind arith

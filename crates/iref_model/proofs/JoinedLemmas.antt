@@ -1,5 +1,5 @@
 -- The names that stay, of lists joined end to end.
-use Rattle.std.proofs.Common.{◌≡◌, ℕ, zero, suc, ◌+◌, ◌-◌, ◌≤◌, Bool, true, false, not, cond, ◌&&◌, List, [], ◌∷◌, ◌++◌, length, take, replicate, refl, sym, ◌∙◌, arith, codes, ◌==◌}
+use Rattle.std.proofs.Common.{◌≡◌, ℕ, zero, suc, ◌+◌, ◌-◌, ◌≤◌, Bool, true, not, cond, ◌&&◌, List, [], ◌∷◌, ◌++◌, length, take, replicate, refl, sym, ◌∙◌, arith, codes, ◌==◌}
 use Rattle.std.proofs.{lemmas.Grind.{common_steps}, lemmas.Bool.{cases_lt}}
 use Rattle.std.specs.List.{list_all}
 use Rattle.iref_grammar.specs.Rules.{Text}
@@ -29,10 +29,7 @@ longer_by_one s names m h = let e : suc (length names) - m ≡ suc (length names
 
 stay_step : (parent dot : Bool) (k m : ℕ) (s : Text) (names tail : List Text) →
     names_with (not dot && not parent) (k + (m - length names)) s (without_last m names ++ tail) ≡ without_last m (names_with (not dot && not parent) k s names) ++ tail
-stay_step true true k m s names tail = refl
-stay_step true false k m s names tail = refl
-stay_step false true k m s names tail = refl
-stay_step false false k m s names tail = grind (arith, common_steps, cases_lt, longer_by_one)
+stay_step parent dot k m s names tail = grind (arith, common_steps, cases_lt, longer_by_one)
 
 -- what stays of xs is what stays of it alone, less one name for each open `..` of ys
 pub staying-append : (xs ys : List Text) → staying_names (xs ++ ys) ≡ without_last (open_parents ys) (staying_names xs) ++ staying_names ys
@@ -49,9 +46,6 @@ are_names list = list_all is_name list
 pub all_first : (test : Text → Bool) (s : Text) (rest : List Text) → list_all test (s ∷ rest) ≡ true → (test s ≡ true) × (list_all test rest ≡ true)
 all_first test s rest h = grind arith
 
-pub names_first : (s : Text) (rest : List Text) → are_names (s ∷ rest) ≡ true → (is_name s ≡ true) × (are_names rest ≡ true)
-names_first s rest h = all_first is_name s rest h
-
 pub open-names : (list : List Text) → are_names list ≡ true → open_parents list ≡ 0
 open-names [] h = refl
 open-names (s ∷ rest) h = grind (arith, open-names rest)
@@ -59,7 +53,7 @@ open-names (s ∷ rest) h = grind (arith, open-names rest)
 pub staying-names : (list : List Text) → are_names list ≡ true → staying_names list ≡ list
 unfolding staying_names
 staying-names [] h = refl
-staying-names (s ∷ rest) h = grind (arith, common_steps, names_first, staying-cons, open-names, staying-names rest)
+staying-names (s ∷ rest) h = grind (arith, common_steps, all_first is_name, staying-cons, open-names, staying-names rest)
 
 -- what stays is a name
 pub are_names-staying : (list : List Text) → are_names (staying_names list) ≡ true

@@ -22,3 +22,6 @@ references_total = on_total key keys_total
 -- `==` is the sameness of keys
 pub Decides-are_alike : (r s : ReferenceValue) → Decides (are_alike r s) (AreAlike r s)
 Decides-are_alike r s = tied_exactly keys_total keys_separate (key r) (key s)
+
+-- the laws of keys
+pub ruleset laws = (references_total, Decides-are_alike)

@@ -1,5 +1,5 @@
 -- Keys of texts, authorities, paths and references: each order is total, and keys that tie are the same.
-use Rattle.std.proofs.Common.{arith, ◌≡◌, ◌↔◌, true, [], ◌∷◌, refl, sym, ◌∙◌, ap, Some, None, Ordering, Less, Equal, Greater, is_eq, true≢false}
+use Rattle.std.proofs.Common.{arith, ◌≡◌, ◌↔◌, true, [], ◌∷◌, refl, sym, ◌∙◌, ap, Ordering, is_eq, true≢false}
 use Rattle.std.proofs.{lemmas.Grind.{common_steps}, lemmas.Map.Text.{is_eq-slice_cmp}}
 use Rattle.std.specs.{Option.{option_cmp}, Ordering.{ordering_then}}
 use Rattle.std.specs.Cmp.{IsTotalOrder, on_total, then_total, tied_itself}
@@ -29,15 +29,10 @@ abbrev pub Separates : {A : Type 0} → (A → A → Ordering) → Type 0
 Separates {A} cmp = (x y : A) → is_eq (cmp x y) ≡ true → x ≡ y
 
 pub both_tie : (a b : Ordering) → is_eq (ordering_then a b) ≡ true → (is_eq a ≡ true) × (is_eq b ≡ true)
-both_tie Less b h = absurd (true≢false (sym h))
-both_tie Equal b h = (refl, h)
-both_tie Greater b h = absurd (true≢false (sym h))
+both_tie a b h = grind arith
 
 pub options_separate : {A : Type 0} (cmp : A → A → Ordering) → Separates cmp → Separates (option_cmp cmp)
-options_separate cmp separate None None h = refl
-options_separate cmp separate None (Some y) h = absurd (true≢false (sym h))
-options_separate cmp separate (Some x) None h = absurd (true≢false (sym h))
-options_separate cmp separate (Some x) (Some y) h = ap Some (separate x y h)
+options_separate cmp separate x y h = grind arith
 
 lists_separate : {A : Type 0} (cmp : A → A → Ordering) → Separates cmp → Separates (slice_cmp cmp)
 lists_separate cmp separate [] [] h = refl
@@ -50,13 +45,8 @@ texts_separate x y h = (bytes_decides x y).0 (sym (is_eq-slice_cmp x y) ∙ h)
 
 pub authority_keys_separate : Separates authority_key_cmp
 authority_keys_separate a b h =
-    let first = both_tie (option_cmp text_order a.user_info b.user_info) _ h in
-    let second = both_tie (text_order a.host b.host) _ first.1 in
-    λ i. record {
-      user_info = options_separate text_order texts_separate a.user_info b.user_info first.0 i;
-      host = texts_separate a.host b.host second.0 i;
-      port = options_separate text_order texts_separate a.port b.port second.1 i;
-    }
+    let host = texts_separate a.host b.host in
+    grind (arith, common_steps, both_tie, options_separate text_order texts_separate)
 
 pub path_keys_separate : Separates path_key_cmp
 path_keys_separate p q h = grind (arith, common_steps, lists_separate)
@@ -64,16 +54,10 @@ path_keys_separate p q h = grind (arith, common_steps, lists_separate)
 pub keys_separate : Separates key_cmp
 unfolding key_cmp
 keys_separate r s h =
-    let one = both_tie (option_cmp text_order r.scheme s.scheme) _ h in
-    let two = both_tie (option_cmp authority_key_cmp r.authority s.authority) _ one.1 in
-    let three = both_tie (path_key_cmp r.path s.path) _ two.1 in
-    let four = both_tie (option_cmp text_order r.query s.query) _ three.1 in
-    let scheme = options_separate text_order texts_separate r.scheme s.scheme one.0 in
-    let authority = options_separate authority_key_cmp authority_keys_separate r.authority s.authority two.0 in
-    let path = path_keys_separate r.path s.path three.0 in
-    let query = options_separate text_order texts_separate r.query s.query four.0 in
-    let fragment = options_separate text_order texts_separate r.fragment s.fragment four.1 in
-    λ i. record { scheme = scheme i; authority = authority i; path = path i; query = query i; fragment = fragment i }
+    let texts = options_separate text_order texts_separate in
+    let authorities = options_separate authority_key_cmp authority_keys_separate in
+    let path = path_keys_separate r.path s.path in
+    grind (arith, common_steps, both_tie, texts, authorities)
 
 -- in a total order whose ties are equal, to tie is to be the same
 pub tied_exactly : {K : Type 0} {order : K → K → Ordering} → IsTotalOrder order → Separates order → (a b : K) → (is_eq (order a b) ≡ true) ↔ (a ≡ b)

@@ -1,5 +1,5 @@
 -- A reference holds characters of ASCII and those that the set adds, so its mapping is that of the RFC's words.
-use Rattle.std.proofs.Common.{◌≡◌, ℕ, Bool, true, false, ◌||◌, List, [], ◌∷◌, ◌++◌, refl, sym, ◌∙◌, ap, subst, arith, inl, inr, ◌==◌, chars, codes, encode_utf8_all, Option, Some, None, option_map, IfSome}
+use Rattle.std.proofs.Common.{◌≡◌, ℕ, Bool, true, ◌||◌, List, [], ◌∷◌, ◌++◌, refl, sym, ◌∙◌, ap, subst, arith, inl, inr, ◌==◌, chars, codes, encode_utf8_all, Option, Some, None, option_map, IfSome}
 use Rattle.std.proofs.{lemmas.Grind.{common_steps}, lemmas.Bool.{eqb-true}, lemmas.Bool.Decides.{nat_tests}}
 use Rattle.std.proofs.lemmas.Str.{chars-encodes, encode_ascii}
 use Rattle.std.specs.{List.{AllByRecursion, concat, list_all, join_with_byte}, Char.{is_ascii, encode_utf8}}
@@ -20,10 +20,10 @@ use Rattle.iref_model.proofs.MappedRuleLemmas.{low, ascii_in_utf8, pct_encoded_a
 
 module _ (set : CharTests) (above : AreAboveAscii set) where
   -- of ASCII, or added by the set
-  abbrev is_known : ℕ → Bool
+  abbrev pub is_known : ℕ → Bool
   is_known c = is_ascii c || set.extra c || set.private c
 
-  abbrev IsKnown : Rule
+  abbrev pub IsKnown : Rule
   IsKnown = ZeroOrMore (OneOf is_known)
 
   -- ---- the two words agree on known characters
@@ -68,27 +68,26 @@ module _ (set : CharTests) (above : AreAboveAscii set) where
 
   -- ---- the characters of the rules
 
-  reg_name_known : (c : ℕ) → is_reg_name_char set c ≡ true → is_known c ≡ true
+  pub reg_name_known : (c : ℕ) → is_reg_name_char set c ≡ true → is_known c ≡ true
   unfolding is_reg_name_char
   reg_name_known c h = grind (arith, nat_tests)
 
   or_known : (a : Bool) (c mark : ℕ) → is_ascii mark ≡ true → (a ≡ true → is_known c ≡ true) → (a || c == mark) ≡ true → is_known c ≡ true
-  or_known true c mark low f h = f refl
-  or_known false c mark low f h = λ i. (ap is_ascii (eqb-true c mark h) ∙ low) i || set.extra c || set.private c
+  or_known a c mark low f h = grind (arith, eqb-true)
 
-  user_info_known : (c : ℕ) → is_user_info_char set c ≡ true → is_known c ≡ true
+  pub user_info_known : (c : ℕ) → is_user_info_char set c ≡ true → is_known c ≡ true
   unfolding is_user_info_char
   user_info_known c = or_known (is_reg_name_char set c) c colon refl (reg_name_known c)
 
-  path_known : (c : ℕ) → is_path_char set c ≡ true → is_known c ≡ true
+  pub path_known : (c : ℕ) → is_path_char set c ≡ true → is_known c ≡ true
   unfolding is_path_char
   path_known c = or_known (is_user_info_char set c) c at_sign refl (user_info_known c)
 
-  fragment_known : (c : ℕ) → is_fragment_char set c ≡ true → is_known c ≡ true
+  pub fragment_known : (c : ℕ) → is_fragment_char set c ≡ true → is_known c ≡ true
   unfolding is_fragment_char
   fragment_known c = or_known (is_path_char set c || c == slash) c question_mark refl (or_known (is_path_char set c) c slash refl (path_known c))
 
-  query_known : (c : ℕ) → is_query_char set c ≡ true → is_known c ≡ true
+  pub query_known : (c : ℕ) → is_query_char set c ≡ true → is_known c ≡ true
   unfolding is_query_char
   query_known c h = grind (arith, common_steps, fragment_known)
 
@@ -152,8 +151,11 @@ module _ (set : CharTests) (above : AreAboveAscii set) where
       (then_part_known (InUtf8 (IsQuery set)) (question_mark ∷ []) refl (known-encoded (is_query_char set) query_known) r.query v.query))
       (then_part_known (InUtf8 (IsFragment set)) (hash_sign ∷ []) refl (known-encoded (is_fragment_char set) fragment_known) r.fragment v.fragment)
 
+  pub known_reference : (bytes : Text) → InUtf8 (IsUriReference set) bytes → InUtf8 IsKnown bytes
+  known_reference bytes h =
+      let z = (in_utf8-reference set above bytes).0 h in
+      subst (InUtf8 IsKnown) z.2 (reference_known z.0 z.1)
+
   -- a reference is mapped character by character
   pub mapped-characters : (bytes : Text) → InUtf8 (IsUriReference set) bytes → mapped bytes ≡ mapped_chars set (chars bytes)
-  mapped-characters bytes h =
-      let z = (in_utf8-reference set above bytes).0 h in
-      known_bytes bytes (subst (InUtf8 IsKnown) z.2 (reference_known z.0 z.1))
+  mapped-characters bytes h = known_bytes bytes (known_reference bytes h)

@@ -1,6 +1,6 @@
 -- Tests of both paths tell which candidates lead to the target's text.
-use Rattle.std.proofs.Common.{◌≡◌, ◌≤◌, nat_le, Bool, true, false, not, cond, ◌&&◌, List, [], ◌∷◌, ◌++◌, refl, sym, ◌∙◌, ap, subst, arith, Option, Some, None, is_some, option_map, codes, bytes_eq, true≢false}
-use Rattle.std.proofs.{lemmas.Bool.{and_parts, and_from, leb-true, le-leb}, lemmas.Slice.Eq.{bytes_eq-Decides}}
+use Rattle.std.proofs.Common.{◌≡◌, ◌≤◌, nat_le, Bool, true, false, not, cond, ◌&&◌, List, [], ◌∷◌, ◌++◌, length, refl, sym, ◌∙◌, ap, subst, arith, Option, None, is_some, option_map, codes, bytes_eq}
+use Rattle.std.proofs.{lemmas.Bool.{and_parts, and_from, leb-true, le-leb}, lemmas.Slice.Eq.{bytes_eq-Decides}, lemmas.Grind.{common_steps}}
 use Rattle.iref_grammar.specs.{Characters.{CharTests}, Rules.{Text}, Grammar.{colon, hash_sign, question_mark}}
 use Rattle.iref_grammar.specs.Texts.{part_then, then_part, is_empty, all_but_last}
 use Rattle.iref_grammar.specs.{Authority.{AuthorityValue, spell_authority}, PathValue.{PathValue, spell_path}}
@@ -37,48 +37,30 @@ spell-same scheme other_scheme authority other_authority p other query other_que
 
 -- a scheme is there where its text is
 same_some : (one other : Option Text) → part_then (colon ∷ []) one ≡ part_then (colon ∷ []) other → is_some one ≡ is_some other
-same_some None None e = refl
-same_some (Some s) (Some t) e = refl
-same_some None (Some []) e = cc
-same_some None (Some (c ∷ t)) e = cc
-same_some (Some []) None e = cc
-same_some (Some (c ∷ s)) None e = cc
+same_some one other e = let size = ap length e in grind (arith, common_steps)
 
 same_some-authority : (one other : Option AuthorityValue) → then_part (codes "//") (option_map spell_authority one) ≡ then_part (codes "//") (option_map spell_authority other) → is_some one ≡ is_some other
-same_some-authority None None e = refl
-same_some-authority (Some a) (Some b) e = refl
-same_some-authority None (Some b) e = cc
-same_some-authority (Some a) None e = cc
+same_some-authority one other e = grind arith
 
 -- ---- what a reference with a scheme resolves to
 
 resolved-itself : (base r : ReferenceValue) → is_some r.scheme ≡ true → resolved base r ≡ with_normal_path r
 unfolding resolved
-resolved-itself base r full = by r.scheme r.authority r.path r.query r.fragment full
-  where
-    by : (scheme : Option Text) (authority : Option AuthorityValue) (p : PathValue) (query fragment : Option Text) → is_some scheme ≡ true → let r = parts scheme authority p query fragment in resolved base r ≡ with_normal_path r
-    by None authority p query fragment full = absurd (true≢false (sym full))
-    by (Some s) authority p query fragment full = refl
+resolved-itself base r full = grind arith
 
 -- ---- the tests
 
 -- two tests, each of which implies the other
 same_test : (a b : Bool) → (a ≡ true → b ≡ true) → (b ≡ true → a ≡ true) → a ≡ b
-same_test true true f g = refl
-same_test false false f g = refl
-same_test true false f g = sym (f refl)
-same_test false true f g = g refl
+same_test a b f g = grind arith
 
 -- ---- the steps from a directory
 
 same_flag : (flag absolute : Bool) → cond flag absolute (not absolute) ≡ true → absolute ≡ flag
-same_flag true absolute h = h
-same_flag false true h = absurd (true≢false (sym h))
-same_flag false false h = refl
+same_flag flag absolute h = grind arith
 
 flag_from : (flag absolute : Bool) → absolute ≡ flag → cond flag absolute (not absolute) ≡ true
-flag_from true absolute e = e
-flag_from false absolute e = ap not e
+flag_from flag absolute e = grind arith
 
 -- they lead to the path's normal list
 placed_steps : (flag : Bool) (directory : List Text) (p : PathValue) → p.absolute ≡ flag → count_parents (kept_segments (path flag directory)) ≤ count_parents (normal_segments p)
@@ -131,12 +113,7 @@ module _ (set : CharTests) (target base : ReferenceValue) (are : AreReadable set
   resolved-authority : (r : ReferenceValue) → is_some r.authority ≡ true
       → resolved base (record r { scheme = None }) ≡ record r { scheme = base.scheme; path = guarded (record { has_scheme = is_some base.scheme; has_authority = is_some r.authority }) (normal r.path) }
   unfolding resolved
-  resolved-authority r some = by r.authority some
-    where
-      by : (authority : Option AuthorityValue) → is_some authority ≡ true → let r = parts r.scheme authority r.path r.query r.fragment in
-          resolved base (record r { scheme = None }) ≡ record r { scheme = base.scheme; path = guarded (record { has_scheme = is_some base.scheme; has_authority = is_some authority }) (normal r.path) }
-      by None some = absurd (true≢false (sym some))
-      by (Some a) some = refl
+  resolved-authority r some = grind arith
 
   pub authority-test : (same_scheme_text target base && is_some target.authority) ≡ true → is_exact target base (record target { scheme = None }) ≡ is_settled target
   authority-test h =
@@ -242,8 +219,7 @@ module _ (set : CharTests) (target base : ReferenceValue) (are : AreReadable set
 
   resolved-tail : (query fragment : Option Text) → is_some query ≡ true → resolved base (only query fragment empty_path) ≡ parts base.scheme base.authority (guarded (context_of base) base.path) query fragment
   unfolding resolved
-  resolved-tail None fragment some = absurd (true≢false (sym some))
-  resolved-tail (Some query) fragment some = refl
+  resolved-tail query fragment some = grind arith
 
   pub tail-test : (same_path_text target base && is_some target.query) ≡ true → is_exact target base (with_only_path empty_path target) ≡ true
   tail-test h =

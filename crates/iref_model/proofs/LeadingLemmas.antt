@@ -1,9 +1,9 @@
 -- The segments that lead from a directory to a normal list, and that no others climb less.
-use Rattle.std.proofs.Common.{◌≡◌, ℕ, zero, suc, ◌+◌, ◌-◌, ◌≤◌, Bool, true, false, not, cond, List, [], ◌∷◌, ◌++◌, map, length, take, drop, refl, sym, ◌∙◌, ap, arith, codes, append_assoc, inl, inr, take_at, take-append-drop, length-take-le, true≢false}
+use Rattle.std.proofs.Common.{◌≡◌, ℕ, zero, suc, ◌+◌, ◌-◌, ◌≤◌, Bool, true, false, not, cond, List, [], ◌∷◌, ◌++◌, map, length, take, drop, refl, sym, ◌∙◌, ap, arith, codes, append_assoc, inl, inr, take_at, take-append-drop, length-take-le}
 use Rattle.std.proofs.lemmas.Grind.{common_steps}
 use Rattle.std.proofs.lemmas.List.{take-map, map-append, length-map, length-append, take-append-le}
 use Rattle.std.proofs.{lemmas.List.Sums.{common_prefix_len-le}, lemmas.Bool.{cases_lt}, Math.Numerals.{one-add}}
-use Rattle.std.proofs.Math.Bool.{and-false}
+use Rattle.std.proofs.{lemmas.Slice.Eq.{bytes_eq-Decides}}
 use Rattle.std.specs.{List.{list_all, common_prefix_len}, Cmp.Lexicographic.{bytes_decides}}
 use Rattle.percent_encoding.specs.Percent.{percent_decode}
 use Rattle.iref_grammar.specs.{Rules.{Text}, Texts.{is_empty, all_but_last}, PathValue.{PathValue, is_one_empty}}
@@ -22,32 +22,21 @@ shared one other = common_prefix_len same_decoded one other
 
 -- ---- the longest common beginning
 
+pub take-step : (b : Bool) (n : ℕ) (s : Text) (rest : List Text)
+    → take (cond b (1 + n) 0) (s ∷ rest) ≡ cond b (s ∷ take n rest) []
+take-step true n s rest = λ i. take (one-add n i) (s ∷ rest)
+take-step false n s rest = refl
+
 pub decoded-shared : (xs ys : List Text) → decoded (take (shared xs ys) xs) ≡ decoded (take (shared xs ys) ys)
 decoded-shared [] ys = refl
 decoded-shared (x ∷ xs) [] = refl
-decoded-shared (x ∷ xs) (y ∷ ys) = by (same_decoded x y) refl (decoded-shared xs ys)
-  where
-    by : (b : Bool) → same_decoded x y ≡ b → decoded (take (shared xs ys) xs) ≡ decoded (take (shared xs ys) ys)
-        → decoded (take (cond b (1 + shared xs ys) 0) (x ∷ xs)) ≡ decoded (take (cond b (1 + shared xs ys) 0) (y ∷ ys))
-    by true e h =
-        (λ i. decoded (take (one-add (shared xs ys) i) (x ∷ xs)))
-        ∙ (λ i. (bytes_decides (percent_decode x) (percent_decode y)).0 e i ∷ h i)
-        ∙ (λ i. decoded (take (sym (one-add (shared xs ys)) i) (y ∷ ys)))
-    by false e h = refl
+decoded-shared (x ∷ xs) (y ∷ ys) = grind (arith, take-step, bytes_eq-Decides, decoded-shared xs ys)
 
 pub shared-most : (n : ℕ) (xs ys : List Text) → n ≤ length xs → n ≤ length ys → decoded (take n xs) ≡ decoded (take n ys) → n ≤ shared xs ys
 shared-most zero xs ys h k e = omega arith
 shared-most (suc n) [] ys h k e = absurd (omega arith)
 shared-most (suc n) (x ∷ xs) [] h k e = absurd (omega arith)
-shared-most (suc n) (x ∷ xs) (y ∷ ys) h k e =
-    let heads : percent_decode x ≡ percent_decode y = cc in
-    let tails : decoded (take n xs) ≡ decoded (take n ys) = cc in
-    let below : n ≤ shared xs ys = shared-most n xs ys (omega arith) (omega arith) tails in
-    by (same_decoded x y) ((bytes_decides (percent_decode x) (percent_decode y)).1 heads) below
-  where
-    by : (b : Bool) → b ≡ true → n ≤ shared xs ys → suc n ≤ cond b (1 + shared xs ys) 0
-    by true e h = omega arith
-    by false e h = absurd (true≢false (sym e))
+shared-most (suc n) (x ∷ xs) (y ∷ ys) h k e = grind (arith, common_steps, bytes_decides, shared-most n xs ys)
 
 -- ---- the last item
 
@@ -56,9 +45,7 @@ divided_last s [] = refl
 divided_last s (t ∷ rest) = λ i. s ∷ divided_last t rest i
 
 pub long_not_lone : (list : List Text) → 2 ≤ length list → is_one_empty list ≡ false
-long_not_lone [] h = refl
-long_not_lone (s ∷ []) h = absurd (omega arith)
-long_not_lone (s ∷ t ∷ rest) h = and-false (is_empty s)
+long_not_lone list h = grind arith
 
 pub long_without_lone : (list : List Text) → 2 ≤ length list → without_lone_empty list ≡ list
 long_without_lone list h = λ i. cond (long_not_lone list h i) [] list
@@ -173,8 +160,7 @@ parents-dotted list = parents-cons (codes ".") list ∙ omega arith
 -- ---- no list climbs less
 
 length-some : (list : List Text) → is_empty list ≡ false → 1 ≤ length list
-length-some [] h = absurd (true≢false h)
-length-some (s ∷ rest) h = omega arith
+length-some list h = grind arith
 
 -- a list that begins with n segments of the directory and goes on shares them
 shared_enough : (directory kept tail list : List Text) (n : ℕ) → take n directory ≡ kept → length kept ≡ n → n ≤ length directory → 1 ≤ length tail
@@ -200,8 +186,7 @@ shared_enough directory kept tail (s ∷ rest) n front size within some same =
     shared-most n directory middle within long fronts
 
 closed_long : (list : List Text) → 1 ≤ length list → closed list ≡ list ++ [] ∷ []
-closed_long [] h = absurd (omega arith)
-closed_long (s ∷ rest) h = refl
+closed_long list h = grind arith
 
 -- what is left of the directory is shared, if the list leads on from there
 kept_shared : (front : List Text) (s : Text) (rest list : List Text) (ends : Bool) → ends_in_dots (s ∷ rest) ≡ ends

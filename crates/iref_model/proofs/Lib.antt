@@ -80,3 +80,5 @@ pub mod ReachableLemmas
 pub mod LeadingCandidateLemmas
 pub mod TestedLemmas
 pub mod ChosenLemmas
+pub mod PathLawLemmas
+pub mod RelativizedLawLemmas

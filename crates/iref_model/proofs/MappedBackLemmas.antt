@@ -2,7 +2,6 @@
 use Rattle.std.proofs.Common.{arith, ◌≡◌, ℕ, ◌+◌, ◌*◌, ◌<◌, ◌≤◌, [], ◌∷◌, ◌++◌, length, get_or, take, drop, refl, sym, ◌∙◌, ap, take-append-drop}
 use Rattle.std.proofs.lemmas.Grind.{common_steps}
 use Rattle.std.proofs.lemmas.List.{take_more, drop_more, length-append, length-take-le, append-nil}
-use Rattle.std.proofs.Math.Seq.{take-length}
 use Rattle.percent_encoding.specs.{AsciiSet.{should_percent_encode}, Percent.{encode_byte, percent_encode}}
 use Rattle.iref_grammar.specs.Rules.{Text}
 use Rattle.iref_model.specs.Mapping.{mapped_byte, mapped, count_escaped, mapped_index}
@@ -27,9 +26,6 @@ mapped_index-next text i h = grind (arith, common_steps, take_more, mapped-appen
 
 pub mapped_index-is : (text : Text) (i : ℕ) → i ≤ length text → mapped_index text i ≡ i + 2 * count_escaped (take i text)
 mapped_index-is text i h = length-mapped (take i text) ∙ ap (λ n. n + 2 * count_escaped (take i text)) (length-take-le i text h)
-
-pub mapped_index-whole : (text : Text) → mapped_index text (length text) ≡ length (mapped text)
-mapped_index-whole text = ap (λ t. length (mapped t)) (take-length text)
 
 -- ---- percent-encoding
 

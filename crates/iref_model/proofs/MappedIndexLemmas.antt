@@ -39,23 +39,6 @@ range_before : (mark : Text) (o : Option Text) (back text : Text) → part_then 
 range_before mark None back text spelled = refl
 range_before mark (Some part) back text spelled = grind (arith, common_steps, range_seam, append_assoc, mapped-nil)
 
--- the five parts of a spelling, grouped round the one that is looked at
-module _ (s a p q f : Text) where
-  pub around_scheme : s ++ (a ++ p ++ q ++ f) ≡ s ++ a ++ p ++ q ++ f
-  around_scheme = simp append_assoc
-
-  pub around_authority : s ++ (a ++ (p ++ q ++ f)) ≡ s ++ a ++ p ++ q ++ f
-  around_authority = simp append_assoc
-
-  pub around_path : (s ++ a) ++ (p ++ (q ++ f)) ≡ s ++ a ++ p ++ q ++ f
-  around_path = simp append_assoc
-
-  pub around_query : (s ++ a ++ p) ++ (q ++ f) ≡ s ++ a ++ p ++ q ++ f
-  around_query = simp append_assoc
-
-  pub around_fragment : (s ++ a ++ p ++ q) ++ (f ++ []) ≡ s ++ a ++ p ++ q ++ f
-  around_fragment = simp (append_assoc, append-nil)
-
 -- how long mappings in a row are
 long_two : (a b : Text) → length (mapped (a ++ b)) ≡ length (mapped a) + length (mapped b)
 long_two a b = ap length (mapped-append a b) ∙ length-append (mapped a) (mapped b)
@@ -98,11 +81,12 @@ module _ (r : ReferenceValue) where
   pub offsets_in-mapped : offsets_in (mapped_reference r) ≡ mapped_offsets (spell r) (offsets_in r)
   unfolding offsets_in spell
   offsets_in-mapped =
-      let scheme = range_before (colon ∷ []) r.scheme (a ++ p ++ q ++ f) (spell r) (around_scheme s a p q f) in
-      let authority = range_after s (codes "//") refl (option_map spell_authority r.authority) (p ++ q ++ f) (spell r) (authority_mark r + 2) (around_authority s a p q f) refl in
-      let path = range_seam (s ++ a) p (q ++ f) (spell r) (path_start r) (around_path s a p q f) (sym (length-append s a)) in
-      let query = range_after (s ++ a ++ p) (question_mark ∷ []) refl r.query f (spell r) (query_mark r + 1) (around_query s a p q f) (ap (λ n. n + 1) query_begins) in
-      let fragment = range_after (s ++ a ++ p ++ q) (hash_sign ∷ []) refl r.fragment [] (spell r) (fragment_mark r + 1) (around_fragment s a p q f) (ap (λ n. n + 1) fragment_begins) in
+      let scheme = range_before (colon ∷ []) r.scheme (a ++ p ++ q ++ f) (spell r) (simp append_assoc) in
+      let authority = range_after s (codes "//") refl (option_map spell_authority r.authority) (p ++ q ++ f) (spell r) (authority_mark r + 2) (simp append_assoc) refl in
+      let path = range_seam (s ++ a) p (q ++ f) (spell r) (path_start r) (simp append_assoc) (sym (length-append s a)) in
+      let query = range_after (s ++ a ++ p) (question_mark ∷ []) refl r.query f (spell r) (query_mark r + 1) (simp append_assoc) (ap (λ n. n + 1) query_begins) in
+      let fragment = range_after (s ++ a ++ p ++ q) (hash_sign ∷ []) refl r.fragment [] (spell r) (fragment_mark r + 1)
+      (simp (append_assoc, append-nil)) (ap (λ n. n + 1) fragment_begins) in
       (λ i. record {
         scheme = option_map (range_from 0) (option_map mapped r.scheme);
         authority = option_map (range_from (authority_mark-mapped i + 2)) (authority_text-mapped r.authority i);

@@ -20,22 +20,23 @@ use Rattle.iref_model.proofs.{MappedNormalLemmas.{normal_segments-map}, MappedDe
 pub decoded_in_rule : (A : Rule) (bytes : Text) → InUtf8 A bytes → percent_decode (mapped bytes) ≡ percent_decode bytes
 decoded_in_rule A bytes z = decoded-mapped bytes (subst (All IsByte) z.2 (utf8_bytes z.0 z.1))
 
--- what is the same after the mapping is so of a part that may be absent
-same_option : {B : Type 0} (P : Text → Type 0) (f : Text → B) → ((t : Text) → P t → f (mapped t) ≡ f t) → (o : Option Text) → IfSome o P → option_map f (option_map mapped o) ≡ option_map f o
-same_option P f same None h = refl
-same_option P f same (Some t) h = ap (λ x. Some x) (same t h)
+-- what is the same after a function is so of a part that may be absent
+same_option : {A B : Type 0} (P : A → Type 0) (g : A → A) (f : A → B) → ((x : A) → P x → f (g x) ≡ f x)
+    → (o : Option A) → IfSome o P → option_map f (option_map g o) ≡ option_map f o
+same_option P g f same None h = refl
+same_option P g f same (Some x) h = ap (λ y. Some y) (same x h)
+
+decoded_option : (A : Rule) (o : Option Text) → IfSome o (InUtf8 A)
+    → option_map percent_decode (option_map mapped o) ≡ option_map percent_decode o
+decoded_option A = same_option (InUtf8 A) mapped percent_decode (decoded_in_rule A)
 
 module _ (set : CharTests) (above : AreAboveAscii set) where
   authority_key-mapped : (a : AuthorityValue) → HasAuthorityParts set a → authority_key (mapped_authority a) ≡ authority_key a
   authority_key-mapped a p = λ i. record {
-    user_info = same_option (InUtf8 (IsUserInfo set)) percent_decode (decoded_in_rule (IsUserInfo set)) a.user_info p.user_info i;
+    user_info = decoded_option (IsUserInfo set) a.user_info p.user_info i;
     host = decoded_in_rule (IsHost set) a.host p.host i;
     port = stays_option (InUtf8 IsPort) mapped mapped-port a.port p.port i;
   }
-
-  authorities-mapped : (o : Option AuthorityValue) → IfSome o (HasAuthorityParts set) → option_map authority_key (option_map mapped_authority o) ≡ option_map authority_key o
-  authorities-mapped None h = refl
-  authorities-mapped (Some a) h = ap (λ x. Some x) (authority_key-mapped a h)
 
   segments-mapped : (ss : List Text) → list_all (is_segment set) ss ≡ true → map percent_decode (map mapped ss) ≡ map percent_decode ss
   segments-mapped [] h = refl
@@ -54,8 +55,8 @@ module _ (set : CharTests) (above : AreAboveAscii set) where
       let segments = (readable_parts set r ((Decides-is_readable set above r).1 v)).segments in
       λ i. record {
         scheme = option_map str_to_ascii_lowercase (stays_option (InUtf8 IsScheme) mapped mapped-scheme r.scheme v.scheme i);
-        authority = authorities-mapped r.authority v.authority i;
+        authority = same_option (HasAuthorityParts set) mapped_authority authority_key authority_key-mapped _ v.authority i;
         path = path_key-mapped r.path segments i;
-        query = same_option (InUtf8 (IsQuery set)) percent_decode (decoded_in_rule (IsQuery set)) r.query v.query i;
-        fragment = same_option (InUtf8 (IsFragment set)) percent_decode (decoded_in_rule (IsFragment set)) r.fragment v.fragment i;
+        query = decoded_option (IsQuery set) r.query v.query i;
+        fragment = decoded_option (IsFragment set) r.fragment v.fragment i;
       }

@@ -1,5 +1,5 @@
 -- The mapping leaves the delimiters of the grammar where they are, and empty texts empty.
-use Rattle.std.proofs.Common.{◌≡◌, ℕ, ◌<◌, true, false, not, ◌&&◌, ◌||◌, List, [], ◌∷◌, ◌++◌, map, refl, ap, arith, ◌==◌, Option, Some, None, option_map, is_some, if◌then◌else◌}
+use Rattle.std.proofs.Common.{◌≡◌, ℕ, ◌<◌, true, false, not, ◌||◌, List, [], ◌∷◌, ◌++◌, map, refl, ap, arith, ◌==◌, Option, option_map, is_some, if◌then◌else◌}
 use Rattle.std.proofs.{lemmas.Grind.{common_steps}, lemmas.Bool.Decides.{nat_tests}}
 use Rattle.std.specs.{Char.{is_ascii, is_ascii_hexdigit, char_set_contains}, Fmt.{digit_glyph}}
 use Rattle.percent_encoding.specs.Percent.{percent_sign, percent_encode_byte}
@@ -45,16 +45,13 @@ is_empty-mapped [] = ap is_empty mapped-nil
 is_empty-mapped (b ∷ bs) = grind (arith, common_steps, mapped-kept, mapped-escaped, begins-escape)
 
 pub is_empty-map : (ss : List Text) → is_empty (map mapped ss) ≡ is_empty ss
-is_empty-map [] = refl
-is_empty-map (s ∷ ss) = refl
+is_empty-map ss = grind arith
 
 pub begins_empty-map : (ss : List Text) → begins_empty (map mapped ss) ≡ begins_empty ss
-begins_empty-map [] = refl
-begins_empty-map (s ∷ ss) = is_empty-mapped s
+begins_empty-map ss = grind (arith, is_empty-mapped)
 
 pub is_one_empty-map : (ss : List Text) → is_one_empty (map mapped ss) ≡ is_one_empty ss
-is_one_empty-map [] = refl
-is_one_empty-map (s ∷ ss) = λ i. is_empty-mapped s i && is_empty-map ss i
+is_one_empty-map ss = grind (arith, is_empty-mapped, is_empty-map)
 
 begins_with_colon-map : (ss : List Text) → begins_with_colon_segment (map mapped ss) ≡ begins_with_colon_segment ss
 begins_with_colon-map [] = refl
@@ -72,8 +69,7 @@ pub reads_as_path-mapped : (context : PathContext) (p : PathValue) → reads_as_
 reads_as_path-mapped context p = grind (arith, common_steps, shows_its_list-mapped, begins_empty-map, begins_with_colon-map)
 
 pub is_some-map : {A B : Type 0} (f : A → B) (o : Option A) → is_some (option_map f o) ≡ is_some o
-is_some-map f None = refl
-is_some-map f (Some x) = refl
+is_some-map f o = grind arith
 
 pub context_of-mapped : (r : ReferenceValue) → context_of (mapped_reference r) ≡ context_of r
 context_of-mapped r = λ i. record { has_scheme = is_some-map mapped r.scheme i; has_authority = is_some-map mapped_authority r.authority i }

@@ -53,8 +53,7 @@ excess-map ss = excess-is (map mapped ss) ∙ open_parents-map ss ∙ sym (exces
 -- ---- the lists of the definition
 
 pub map-if : {A B : Type 0} (f : A → B) (b : Bool) (xs ys : List A) → (if b then map f xs else map f ys) ≡ map f (if b then xs else ys)
-map-if f true xs ys = refl
-map-if f false xs ys = refl
+map-if f b xs ys = grind arith
 
 pub staying_names-map : (ss : List Text) → staying_names (map mapped ss) ≡ map mapped (staying_names ss)
 unfolding staying_names

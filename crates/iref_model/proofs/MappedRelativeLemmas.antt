@@ -1,6 +1,6 @@
 -- Relative references commute with the mapping.
-use Rattle.std.proofs.Common.{arith, ◌≡◌, ℕ, zero, suc, Bool, true, false, ◌&&◌, List, [], ◌∷◌, length, drop, map, refl, sym, ◌∙◌, ap, bytes_eq, Option, Some, None, option_map, is_none, if◌then◌else◌}
-use Rattle.std.proofs.lemmas.Grind.{common_steps}
+use Rattle.std.proofs.Common.{arith, ◌≡◌, Bool, true, false, ◌&&◌, List, [], ◌∷◌, map, refl, sym, ◌∙◌, ap, bytes_eq, if◌then◌else◌}
+use Rattle.std.proofs.{lemmas.Grind.{common_steps}, lemmas.List.{length-map, drop-map}}
 use Rattle.std.specs.List.{list_all, common_prefix_len}
 use Rattle.iref_grammar.specs.{Characters.{CharTests, AreAboveAscii}, Rules.{Text}, Texts.{is_empty, all_but_last}}
 use Rattle.iref_grammar.specs.{Tests.{is_segment}, PathValue.{PathValue}, Contexts.{alone}}
@@ -19,22 +19,9 @@ use Rattle.iref_model.proofs.MappedResolutionLemmas.{at_if, normal-mapped, guard
 
 -- ---- lists
 
-length-map : (ss : List Text) → length (map mapped ss) ≡ length ss
-length-map [] = refl
-length-map (s ∷ ss) = ap suc (length-map ss)
-
-drop-map : (n : ℕ) (ss : List Text) → drop n (map mapped ss) ≡ map mapped (drop n ss)
-drop-map zero ss = refl
-drop-map (suc n) [] = refl
-drop-map (suc n) (s ∷ ss) = drop-map n ss
-
 last_or_empty-map : (ss : List Text) → last_or_empty (map mapped ss) ≡ mapped (last_or_empty ss)
 last_or_empty-map [] = sym mapped-nil
 last_or_empty-map (s ∷ ss) = (λ i. if is_empty-map ss i then mapped s else last_or_empty-map ss i) ∙ at_if mapped (is_empty ss) s (last_or_empty ss)
-
-is_none-map : {A B : Type 0} (f : A → B) (o : Option A) → is_none (option_map f o) ≡ is_none o
-is_none-map f None = refl
-is_none-map f (Some x) = refl
 
 -- what all segments pass, those that stay pass
 names_pass : (test : Text → Bool) (ss : List Text) → list_all test ss ≡ true → list_all test (staying_names ss) ≡ true
@@ -66,7 +53,7 @@ module _ (set : CharTests) (above : AreAboveAscii set) where
     base_segments = (readable_parts set base ((Decides-is_readable set above base).1 b)).segments
 
     agree-mapped : (schemes_agree (mapped_reference target) (mapped_reference base) && have_same_authority (mapped_reference target) (mapped_reference base)) ≡ (schemes_agree target base && have_same_authority target base)
-    agree-mapped = grind (arith, common_steps, key-mapped, is_none-map)
+    agree-mapped = grind (arith, common_steps, key-mapped, is_some-map)
 
     same_place-mapped : is_same_place (mapped_reference target) (mapped_reference base) ≡ is_same_place target base
     same_place-mapped = grind (arith, common_steps, normal_segments-map, is_empty-map, path_key-mapped, target_segments, base_segments, is_some-map)

@@ -1,5 +1,5 @@
 -- Resolution commutes with the mapping.
-use Rattle.std.proofs.Common.{arith, ◌≡◌, Bool, true, false, not, ◌&&◌, List, [], ◌∷◌, map, refl, sym, ◌∙◌, ap, codes, option_map, if◌then◌else◌}
+use Rattle.std.proofs.Common.{arith, ◌≡◌, Bool, not, ◌&&◌, List, [], ◌∷◌, map, refl, sym, ◌∙◌, ap, codes, option_map, if◌then◌else◌}
 use Rattle.std.proofs.{lemmas.Grind.{common_steps}, lemmas.List.{map-append}}
 use Rattle.std.specs.Option.{option_or}
 use Rattle.iref_grammar.specs.{declared.context.PathContext.{PathContext}, Rules.{Text}, Texts.{all_but_last}}
@@ -14,8 +14,7 @@ use Rattle.iref_model.proofs.MappedNormalLemmas.{normal_segments-map}
 
 -- a function of a choice
 pub at_if : {A B : Type 0} (f : A → B) (b : Bool) (x y : A) → (if b then f x else f y) ≡ f (if b then x else y)
-at_if f true x y = refl
-at_if f false x y = refl
+at_if f b x y = grind arith
 
 -- ---- paths
 

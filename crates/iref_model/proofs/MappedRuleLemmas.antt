@@ -1,6 +1,6 @@
 -- The mapping of a text in a rule of IRIs is in the rule of URIs.
 use Rattle.std.proofs.Common.{◌≡◌, ℕ, ◌/◌, ◌%◌, ◌<◌, Bool, true, false, ◌||◌, List, [], ◌∷◌, map, refl, sym, ◌∙◌, ap, subst, arith, inl, inr, ◌==◌, encode_utf8_all, Option, Some, None, option_map, IfSome}
-use Rattle.std.proofs.{lemmas.Grind.{common_steps}, lemmas.Bool.{and_from, or_right}, lemmas.Bool.Decides.{nat_tests}}
+use Rattle.std.proofs.{lemmas.Grind.{common_steps}, lemmas.Bool.{and_from}, lemmas.Bool.Decides.{nat_tests}}
 use Rattle.std.proofs.{lemmas.List.{append-nil}, lemmas.Str.{encode_ascii}}
 use Rattle.std.specs.List.{AllByRecursion, concat, list_all, flat_map}
 use Rattle.std.specs.{Char.{is_ascii, is_ascii_alphabetic, is_ascii_digit, encode_utf8}, Fmt.{digit_glyph}}
@@ -91,8 +91,7 @@ module _ (test narrow : ℕ → Bool) (keeps : (c : ℕ) → is_ascii c ≡ true
 -- ---- the characters of the rules
 
 or_keeps : (a b c : Bool) → (a ≡ true → b ≡ true) → (a || c) ≡ true → (b || c) ≡ true
-or_keeps true b c f h = λ i. f refl i || c
-or_keeps false b c f h = or_right b c h
+or_keeps a b c f h = grind arith
 
 pub IfSome_mapped : {A B : Type 0} (P : A → Type 0) (Q : B → Type 0) (f : A → B) → ((x : A) → P x → Q (f x)) → (o : Option A) → IfSome o P → IfSome (option_map f o) Q
 IfSome_mapped P Q f g None h = tt

@@ -1,5 +1,5 @@
 -- The mapping of a spelling is the spelling of the mapped components.
-use Rattle.std.proofs.Common.{arith, ◌≡◌, ℕ, true, List, [], ◌∷◌, ◌++◌, map, refl, sym, ◌∙◌, ap, Option, Some, None, option_map}
+use Rattle.std.proofs.Common.{arith, ◌≡◌, ℕ, true, List, [], ◌∷◌, ◌++◌, map, refl, sym, ap, Option, Some, None, option_map}
 use Rattle.std.proofs.lemmas.Grind.{common_steps}
 use Rattle.std.specs.{List.{list_all, join_with_byte}, Char.{is_ascii}}
 use Rattle.iref_grammar.specs.{Rules.{Text}, Texts.{part_then, then_part}, Authority.{AuthorityValue, spell_authority}}
@@ -8,12 +8,10 @@ use Rattle.iref_model.specs.Mapping.{mapped, mapped_authority, mapped_path, mapp
 use Rattle.iref_model.proofs.MappedLemmas.{mapped-nil, mapped-append, mapped-kept, mapped-ascii}
 
 pub part_then-mapped : (mark : Text) → list_all is_ascii mark ≡ true → (o : Option Text) → part_then mark (option_map mapped o) ≡ mapped (part_then mark o)
-part_then-mapped mark a None = sym mapped-nil
-part_then-mapped mark a (Some part) = ap (λ t. mapped part ++ t) (sym (mapped-ascii mark a)) ∙ sym (mapped-append part mark)
+part_then-mapped mark a o = grind (arith, mapped-nil, mapped-ascii, mapped-append)
 
 pub then_part-mapped : (mark : Text) → list_all is_ascii mark ≡ true → (o : Option Text) → then_part mark (option_map mapped o) ≡ mapped (then_part mark o)
-then_part-mapped mark a None = sym mapped-nil
-then_part-mapped mark a (Some part) = ap (λ t. t ++ mapped part) (sym (mapped-ascii mark a)) ∙ sym (mapped-append mark part)
+then_part-mapped mark a o = grind (arith, mapped-nil, mapped-ascii, mapped-append)
 
 join-mapped : (mark : ℕ) → is_ascii mark ≡ true → (ss : List Text) → join_with_byte mark (map mapped ss) ≡ mapped (join_with_byte mark ss)
 join-mapped mark a [] = sym mapped-nil

@@ -1,5 +1,5 @@
 -- The stretches of a list, by one count from the back.
-use Rattle.std.proofs.Common.{◌≡◌, ℕ, ◌+◌, ◌-◌, ◌≤◌, ◌<◌, max, Bool, true, false, not, cond, ◌&&◌, ◌||◌, List, [], ◌∷◌, map, refl, ◌∙◌, ap, arith, inl, inr, nat_le, ◌==◌, ◌≢◌}
+use Rattle.std.proofs.Common.{◌≡◌, ℕ, ◌+◌, ◌-◌, ◌≤◌, ◌<◌, max, Bool, not, cond, ◌&&◌, ◌||◌, List, [], ◌∷◌, map, refl, ◌∙◌, ap, arith, inl, inr, nat_le, ◌==◌, ◌≢◌}
 use Rattle.std.proofs.{lemmas.Grind.{common_steps}, lemmas.List.Sums.{sum_by-cons}}
 use Rattle.std.proofs.lemmas.Bool.Decides.{nat_tests, eqb_tells}
 use Rattle.std.specs.List.{list_any}
@@ -14,14 +14,6 @@ over_longer s g h e (f ∷ fronts) = λ i. max (e f i) (over_longer s g h e fron
 any_over_longer : (s : Text) (t u : List Text → Bool) → ((f : List Text) → t (s ∷ f) ≡ u f) → (fronts : List (List Text)) → list_any t (map (λ f. s ∷ f) fronts) ≡ list_any u fronts
 any_over_longer s t u e [] = refl
 any_over_longer s t u e (f ∷ fronts) = λ i. e f i || any_over_longer s t u e fronts i
-
-any_same : (t u : List Text → Bool) → ((f : List Text) → t f ≡ u f) → (fronts : List (List Text)) → list_any t fronts ≡ list_any u fronts
-any_same t u e [] = refl
-any_same t u e (f ∷ fronts) = λ i. e f i || any_same t u e fronts i
-
-greatest_same : (g h : List Text → ℕ) → ((f : List Text) → g f ≡ h f) → (fronts : List (List Text)) → greatest (map g fronts) ≡ greatest (map h fronts)
-greatest_same g h e [] = refl
-greatest_same g h e (f ∷ fronts) = λ i. max (e f i) (greatest_same g h e fronts i)
 
 pub parents-cons : (s : Text) (f : List Text) → count_parents (s ∷ f) ≡ cond (is_dot_dot s) 1 0 + count_parents f
 parents-cons s f = sum_by-cons (λ x. cond (is_dot_dot x) 1 0) s f
@@ -40,10 +32,7 @@ levels-cons : (k m : ℕ) (s : Text) (f : List Text) → levels k m (s ∷ f) �
 levels-cons k m s f = grind (arith, common_steps)
 
 surplus_by_kind : (parent dot : Bool) (k m n : ℕ) → max (k - m) (k + cond parent 1 0 + n - (m + cond (not dot && not parent) 1 0)) ≡ k + counted parent (not dot && not parent) n - m
-surplus_by_kind true true k m n = omega arith
-surplus_by_kind true false k m n = omega arith
-surplus_by_kind false true k m n = omega arith
-surplus_by_kind false false k m n = omega arith
+surplus_by_kind parent dot k m n = grind arith
 
 pub greatest_surplus : (k m : ℕ) (segments : List Text) → greatest (map (surplus k m) (beginnings segments)) ≡ k + open_parents segments - m
 greatest_surplus k m [] = omega arith
@@ -60,13 +49,10 @@ unfolding excess
 excess-is segments =
     let same : (f : List Text) → count_parents f - count_names f ≡ surplus 0 0 f = λ f. omega arith in
     let all = greatest_surplus 0 0 segments in
-    greatest_same _ _ same (beginnings segments) ∙ omega (arith, all)
+    (λ i. greatest (map (λ f. same f i) (beginnings segments))) ∙ omega (arith, all)
 
 levels_by_kind : (parent dot : Bool) (k m n : ℕ) → k < m → nat_le (m + cond (not dot && not parent) 1 0) (k + cond parent 1 0 + n) ≡ nat_le m (k + counted parent (not dot && not parent) n)
-levels_by_kind true true k m n h = grind (arith, nat_tests)
-levels_by_kind true false k m n h = grind (arith, nat_tests)
-levels_by_kind false true k m n h = grind (arith, nat_tests)
-levels_by_kind false false k m n h = grind (arith, nat_tests)
+levels_by_kind parent dot k m n h = grind (arith, nat_tests)
 
 level_here : (k m n : ℕ) → k ≡ m → (r : Bool) (parent dot : Bool) → (((k + 0) == (m + 0)) || r) ≡ nat_le m (k + counted parent (not dot && not parent) n)
 level_here k m n e r parent dot = grind arith
@@ -75,10 +61,7 @@ not_level : (k m : ℕ) → (k ≢ m) → (r : Bool) → (((k + 0) == (m + 0)) |
 not_level k m h r = grind arith
 
 step_within : (parent name : Bool) (k m : ℕ) → k < m → k + cond parent 1 0 ≤ m + cond name 1 0
-step_within true true k m h = omega arith
-step_within true false k m h = omega arith
-step_within false true k m h = omega arith
-step_within false false k m h = omega arith
+step_within parent name k m h = grind arith
 
 none_open : (n : ℕ) → not (nat_le 1 (0 + n)) ≡ (n == 0)
 none_open n = grind (arith, nat_tests)
@@ -101,5 +84,5 @@ any_levels k m (s ∷ rest) h = elim (eqb_tells k m) [
 pub stays_before-is : (rest : List Text) → stays_before rest ≡ (open_parents rest == 0)
 stays_before-is rest =
     let same : (f : List Text) → takes_one_name f ≡ levels 0 1 f = λ f. grind (arith, nat_tests) in
-    let found = any_same takes_one_name (levels 0 1) same (beginnings rest) ∙ any_levels 0 1 rest (omega arith) in
+    let found = (λ i. list_any (λ f. same f i) (beginnings rest)) ∙ any_levels 0 1 rest (omega arith) in
     ap not found ∙ none_open (open_parents rest)

@@ -1,6 +1,6 @@
 -- The normal list of a path is not longer than the path, but for a `/` after some `..`.
-use Rattle.std.proofs.Common.{◌≡◌, ℕ, zero, suc, ◌+◌, ◌-◌, ◌*◌, ◌≤◌, Bool, true, false, cond, ◌&&◌, List, [], ◌∷◌, ◌++◌, length, take, refl, sym, ◌∙◌, ap, arith, ◌⊎◌, inl, inr, true≢false}
-use Rattle.std.proofs.Math.Bool.{and-false}
+use Rattle.std.proofs.Common.{◌≡◌, ℕ, zero, suc, ◌+◌, ◌-◌, ◌*◌, ◌≤◌, Bool, true, false, cond, ◌&&◌, List, [], ◌∷◌, ◌++◌, length, refl, sym, ◌∙◌, ap, arith, ◌⊎◌, inl, inr, true≢false}
+use Rattle.std.proofs.{Math.Bool.{and-false}, Math.Seq.{take-nil}}
 use Rattle.iref_grammar.specs.{declared.context.PathContext.{PathContext}, Rules.{Text}, Texts.{all_but_last}}
 use Rattle.iref_grammar.specs.{PathValue.{PathValue, spell_path, is_one_empty}, Contexts.{fits}}
 use Rattle.iref_model.specs.Guard.{guarded}
@@ -12,10 +12,6 @@ use Rattle.iref_model.proofs.AddedLemmas.{guarded_in, guarded-same, added_light}
 use Rattle.iref_model.proofs.StepsWeightLemmas.{front-climb, is_climb-climbs}
 
 -- ---- the normal list of a path
-
-take-nil : (n : ℕ) → take {A = Text} n [] ≡ []
-take-nil zero = refl
-take-nil (suc n) = refl
 
 pub normal-root : (s : Text) (rest : List Text) → normal_segments (path true (s ∷ rest)) ≡ without_lone_empty (ended (s ∷ rest))
 unfolding staying_names
@@ -29,8 +25,7 @@ normal-rootless s rest =
 
 pub normal-none : (absolute : Bool) → normal_segments (path absolute []) ≡ []
 unfolding normal_segments excess staying_names
-normal-none true = refl
-normal-none false = refl
+normal-none absolute = grind arith
 
 -- ---- behind its guard
 

@@ -16,10 +16,4 @@ some_piece mark (c ∷ text) = by (c == mark) (some_piece mark text)
 
 pub pieces-append : (mark : ℕ) (front back : Text) → pieces_at mark (front ++ mark ∷ back) ≡ pieces_at mark front ++ pieces_at mark back
 pieces-append mark [] back = slice_split-cons_yes (λ c. c == mark) mark back (eq-eqb mark mark refl)
-pieces-append mark (c ∷ front) back = by (c == mark) (some_piece mark front) (pieces-append mark front back)
-  where
-    by : (b : Bool) → (p : Text) × (ps : List Text) × (pieces_at mark front ≡ p ∷ ps) → pieces_at mark (front ++ mark ∷ back) ≡ pieces_at mark front ++ pieces_at mark back
-        → cond b ([] ∷ pieces_at mark (front ++ mark ∷ back)) (onto_first c (pieces_at mark (front ++ mark ∷ back)))
-        ≡ cond b ([] ∷ pieces_at mark front) (onto_first c (pieces_at mark front)) ++ pieces_at mark back
-    by true some h = ap (λ ps. [] ∷ ps) h
-    by false some h = grind arith
+pieces-append mark (c ∷ front) back = let some = some_piece mark front in grind (arith, pieces-append mark front back)

@@ -1,7 +1,7 @@
 -- What a path alone resolves to.
-use Rattle.std.proofs.Common.{◌≡◌, Bool, true, false, cond, List, [], ◌∷◌, ◌++◌, refl, sym, ◌∙◌, ap, arith, Option, Some, None, codes, true≢false}
+use Rattle.std.proofs.Common.{◌≡◌, Bool, true, false, cond, List, [], ◌∷◌, ◌++◌, refl, sym, ◌∙◌, ap, arith, Option, None, codes, true≢false}
 use Rattle.std.proofs.lemmas.List.{append-nil}
-use Rattle.iref_grammar.specs.{Rules.{Text}, Texts.{is_empty, all_but_last}, Authority.{AuthorityValue}}
+use Rattle.iref_grammar.specs.{Rules.{Text}, Texts.{is_empty}}
 use Rattle.iref_grammar.specs.{PathValue.{PathValue}, Contexts.{alone, follows_authority, reads_as_path}}
 use Rattle.iref_grammar.specs.Reference.{ReferenceValue, context_of}
 use Rattle.iref_model.specs.{Guard.{guarded}, NormalList.{normal, normal_segments}, Resolution.{resolved, merged}}
@@ -40,23 +40,10 @@ root_resolved base query fragment segments =
 
 -- what a relative path is merged with
 pub merged-is : (base : ReferenceValue) (list : List Text) → merged base (path false list) ≡ path (base_directory base).absolute ((base_directory base).segments ++ list)
-merged-is base list = by base.authority base.path.segments
-  where
-    by : (authority : Option AuthorityValue) (own : List Text) → let base = parts base.scheme authority (path base.path.absolute own) base.query base.fragment in
-        merged base (path false list) ≡ path (base_directory base).absolute ((base_directory base).segments ++ list)
-    by None own = λ i. path base.path.absolute (sym (append-nil (all_but_last own)) i ++ list)
-    by (Some a) [] = refl
-    by (Some a) (t ∷ own) = λ i. path base.path.absolute (sym (append-nil (all_but_last (t ∷ own))) i ++ list)
+merged-is base list = grind (arith, append-nil)
 
 pub follows-merged : (base : ReferenceValue) (list : List Text) → follows_authority (context_of base) base.path ≡ true → follows_authority (context_of base) (merged base (path false list)) ≡ true
-follows-merged base list h = by base.authority base.path.absolute base.path.segments h
-  where
-    by : (authority : Option AuthorityValue) (absolute : Bool) (own : List Text) → let base = parts base.scheme authority (path absolute own) base.query base.fragment in
-        follows_authority (context_of base) base.path ≡ true → follows_authority (context_of base) (merged base (path false list)) ≡ true
-    by None absolute own h = refl
-    by (Some a) absolute [] h = refl
-    by (Some a) true (t ∷ own) h = refl
-    by (Some a) false (t ∷ own) h = absurd (true≢false (sym h))
+follows-merged base list h = grind arith
 
 -- a list behind its guard leads where the list does
 pub alike-guarded : (list : List Text) → is_empty list ≡ false → LeadAlike (guarded alone (path false list)).segments list
@@ -77,8 +64,7 @@ module _ (base : ReferenceValue) (query fragment : Option Text) where
 
   resolved-list : (items : List Text) → is_empty items ≡ false → resolved base (only query fragment (path false items)) ≡ placed base query fragment (normal (merged base (path false items)))
   unfolding resolved
-  resolved-list [] h = absurd (true≢false h)
-  resolved-list (t ∷ items) h = refl
+  resolved-list items h = grind arith
 
   pub normal-merged : (items : List Text) → normal (merged base (path false items)) ≡ path flag (normal_segments (path flag (directory ++ items)))
   normal-merged items = ap normal (merged-is base items)

@@ -18,10 +18,7 @@ parents-front : (n : ℕ) (list : List Text) → n ≤ count_parents (climbs n +
 parents-front n list = grind (arith, common_steps)
 
 parents-lone : (list : List Text) → count_parents (without_lone_empty list) ≡ count_parents list
-parents-lone [] = refl
-parents-lone ([] ∷ []) = refl
-parents-lone ([] ∷ t ∷ rest) = refl
-parents-lone ((c ∷ s) ∷ rest) = refl
+parents-lone list = grind arith
 
 pub parents-kept : (absolute : Bool) (segments : List Text) → count_parents (kept_segments (path absolute segments)) ≡ leading absolute segments
 parents-kept absolute segments = ap count_parents (kept-is absolute segments) ∙ parents-climbs (leading absolute segments) (staying_names segments) (are_names-staying segments)

@@ -1,5 +1,5 @@
 -- The answer is readable, so what it leads to is what its text leads to.
-use Rattle.std.proofs.Common.{arith, ◌≡◌, ℕ, zero, suc, Bool, true, false, not, cond, ◌&&◌, List, [], ◌∷◌, refl, sym, ◌∙◌, ap, Some, None, is_some, codes, true≢false}
+use Rattle.std.proofs.Common.{arith, ◌≡◌, ℕ, suc, Bool, true, false, not, cond, ◌&&◌, List, [], ◌∷◌, refl, sym, ◌∙◌, ap, Some, None, is_some, codes, true≢false}
 use Rattle.std.proofs.{lemmas.Grind.{common_steps}, lemmas.Bool.{and_from, and_parts}}
 use Rattle.std.proofs.lemmas.List.Folds.{list_all-append}
 use Rattle.std.specs.List.{list_all}
@@ -12,19 +12,16 @@ use Rattle.iref_model.specs.{Guard.{guarded}, NormalList.{normal, normal_segment
 use Rattle.iref_model.specs.Relative.{with_only_path}
 use Rattle.iref_model.specs.Relativized.{same_scheme_text, same_authority_text, same_path_text, same_query_text, empty_path, base_directory, steps_by_text, is_climb, shortened, relative_path, only_if, fragment_alone, climb_shortened, candidates, relativized}
 use Rattle.iref_model.proofs.{GuardLemmas.{guarded-fits}, JoinedLemmas.{climbs}, LeadingLemmas.{all_drop, all_last}}
-use Rattle.iref_model.proofs.NormalGrammarLemmas.{takes_dots}
-use Rattle.iref_model.proofs.{StepSegmentLemmas.{TakesDots, normal-in, guarded-in, in-shortened}, WalkLemmas.{climb-is}}
+use Rattle.iref_model.proofs.{NormalGrammarLemmas.{takes_dots}, ReadableRelativeLemmas.{only_path-readable}}
+use Rattle.iref_model.proofs.StepSegmentLemmas.{TakesDots, normal-in, guarded-in, in-parents, in-shortened}
+use Rattle.iref_model.proofs.WalkLemmas.{climb-is}
 use Rattle.iref_model.proofs.{NormalWeightLemmas.{normal-none}, ChoiceLemmas.{answer_passes}}
 
 -- ---- the segments of the relative path
 
 module _ (test : Text → Bool) (dots : TakesDots test) where
-  in-climbs : (n : ℕ) → list_all test (climbs n) ≡ true
-  in-climbs zero = refl
-  in-climbs (suc n) = and_from _ _ dots.parent (in-climbs n)
-
   in-steps : (directory list : List Text) → list_all test list ≡ true → list_all test (steps_by_text directory list) ≡ true
-  in-steps directory list h = grind (arith, common_steps, list_all-append, in-climbs, all_drop, all_last)
+  in-steps directory list h = grind (arith, common_steps, list_all-append, in-parents test dots, all_drop, all_last)
 
   in-shortened_list : (list : List Text) → list_all test list ≡ true → list_all test (shortened list) ≡ true
   in-shortened_list list h = by (is_climb list) (is_one_empty list)
@@ -41,8 +38,7 @@ reads_after : (has_scheme has_authority : Bool) (p : PathValue) → has_authorit
 reads_after has_scheme has_authority p some h = grind arith
 
 parents_stand : (has_scheme : Bool) (list : List Text) (n : ℕ) → list ≡ climbs (suc n) → fits (record { has_scheme = has_scheme; has_authority = false }) (record { absolute = false; segments = list }) ≡ true
-parents_stand true list n e = λ i. fits (record { has_scheme = true; has_authority = false }) (record { absolute = false; segments = e i })
-parents_stand false list n e = λ i. fits (record { has_scheme = false; has_authority = false }) (record { absolute = false; segments = e i })
+parents_stand has_scheme list n e = grind arith
 
 -- some `..` stand where a relative path stands
 climb_stands : (has_scheme has_authority absolute : Bool) (segments : List Text) →
@@ -60,18 +56,10 @@ module _ (set : CharTests) (target base : ReferenceValue) (readable : is_readabl
   passes r = is_readable set r
 
   passes_if : (condition : Bool) (r : ReferenceValue) → (condition ≡ true → passes r ≡ true) → list_all passes (only_if condition r) ≡ true
-  passes_if true r h = and_from _ _ (h refl) refl
-  passes_if false r h = refl
+  passes_if condition r h = grind arith
 
   segments : list_all (is_segment set) target.path.segments ≡ true
   segments = (readable_parts set target readable).segments
-
-  -- a path alone, with the target's query and fragment
-  pub only_path-passes : (p : PathValue) → list_all (is_segment set) p.segments ≡ true → fits alone p ≡ true → passes (with_only_path p target) ≡ true
-  only_path-passes p own fit =
-      let both = and_parts (follows_authority alone p) (reads_as_path alone p) fit in
-      let has = readable_parts set target readable in
-      readable_from set (with_only_path p target) (record { scheme = refl; authority = refl; segments = own; query = has.query; fragment = has.fragment; follows = both.0; reads = both.1 })
 
   pub fragment-passes : passes (fragment_alone target) ≡ true
   fragment-passes = readable_from set (fragment_alone target) (record { scheme = refl; authority = refl; segments = refl; query = refl; fragment = (readable_parts set target readable).fragment; follows = refl; reads = refl })
@@ -80,7 +68,9 @@ module _ (set : CharTests) (target base : ReferenceValue) (readable : is_readabl
   normal-passes = normal-in (is_segment set) (takes_dots set) target.path segments
 
   pub guarded-passes : (p : PathValue) → list_all (is_segment set) p.segments ≡ true → passes (with_only_path (guarded alone p) target) ≡ true
-  guarded-passes p own = only_path-passes (guarded alone p) (guarded-in (is_segment set) (takes_dots set) alone p own) (guarded-fits alone p)
+  guarded-passes p own =
+      only_path-readable set target (guarded alone p) readable
+      (guarded-in (is_segment set) (takes_dots set) alone p own) (guarded-fits alone p)
 
   pub relative-passes : passes (with_only_path (relative_path target base) target) ≡ true
   relative-passes =
@@ -89,18 +79,7 @@ module _ (set : CharTests) (target base : ReferenceValue) (readable : is_readabl
       (in-shortened_list (is_segment set) (takes_dots set) steps (in-steps (is_segment set) (takes_dots set) (kept_segments (base_directory base)) (normal_segments target.path) normal-passes))
 
   pub authority-passes : is_some target.authority ≡ true → passes (record target { scheme = None }) ≡ true
-  authority-passes some =
-      let has = readable_parts set target readable in
-      readable_from set (record target { scheme = None })
-      (record {
-        scheme = refl;
-        authority = has.authority;
-        segments = has.segments;
-        query = has.query;
-        fragment = has.fragment;
-        follows = has.follows;
-        reads = reads_after (is_some target.scheme) (is_some target.authority) target.path some has.reads;
-      })
+  authority-passes some = grind (arith, readable_parts, readable_from, reads_after)
 
   pub climb-passes : (not target.path.absolute && is_climb (normal_segments target.path)) ≡ true → passes (climb_shortened target) ≡ true
   climb-passes h =
@@ -120,8 +99,9 @@ module _ (set : CharTests) (target base : ReferenceValue) (readable : is_readabl
 
   all_pass : list_all passes (candidates target base) ≡ true
   all_pass =
+      let no_path = only_path-readable set target empty_path readable refl refl in
       let a = passes_if (same_path_text target base && same_query_text target base) (fragment_alone target) (λ h. fragment-passes) in
-      let b = passes_if (same_path_text target base && is_some target.query) (with_only_path empty_path target) (λ h. only_path-passes empty_path refl refl) in
+      let b = passes_if (same_path_text target base && is_some target.query) (with_only_path empty_path target) (λ h. no_path) in
       let c = passes_if (same_authority_text target base) (with_only_path (relative_path target base) target) (λ h. relative-passes) in
       let d = passes_if (same_authority_text target base && target.path.absolute) (with_only_path (guarded alone (normal target.path)) target) (λ h. guarded-passes (normal target.path) normal-passes) in
       let e = passes_if (same_scheme_text target base && is_some target.authority) (record target { scheme = None }) (λ h. authority-passes (and_parts _ _ h).1) in

@@ -1,6 +1,6 @@
 -- A relative reference to a readable target is readable.
-use Rattle.std.proofs.Common.{arith, ◌≡◌, ℕ, zero, suc, Bool, true, false, cond, ◌&&◌, List, [], refl}
-use Rattle.std.proofs.{lemmas.Grind.{common_steps}, lemmas.List.Folds.{list_all-append}, lemmas.Bool.{and_from}}
+use Rattle.std.proofs.Common.{arith, ◌≡◌, Bool, true, false, cond, ◌&&◌, List, [], refl}
+use Rattle.std.proofs.{lemmas.Grind.{common_steps}, lemmas.List.Folds.{list_all-append}}
 use Rattle.std.specs.List.{list_all}
 use Rattle.iref_grammar.specs.{Characters.{CharTests, AreAboveAscii}, Rules.{Text}, Tests.{is_segment}}
 use Rattle.iref_grammar.specs.{PathValue.{PathValue}, Contexts.{alone, follows_authority, reads_as_path}}
@@ -9,19 +9,19 @@ use Rattle.iref_model.specs.NormalList.{normal_segments, normal}
 use Rattle.iref_model.specs.Relative.{have_same_authority, schemes_agree, is_same_place, steps_between, leading_path, with_only_path, relative_to}
 use Rattle.iref_grammar.proofs.{ReadablePartsLemmas.{readable_parts}, ReferenceRuleLemmas.{Decides-is_readable}}
 use Rattle.iref_model.proofs.{GuardLemmas.{guarded-fits}, JoinedLemmas.{climbs}}
-use Rattle.iref_model.proofs.StepSegmentLemmas.{TakesDots, normal-in, guarded-in}
+use Rattle.iref_model.proofs.StepSegmentLemmas.{TakesDots, normal-in, guarded-in, in-parents}
 use Rattle.iref_model.proofs.LeadingLemmas.{names_down-all, climb_between, steps-are}
-use Rattle.iref_model.proofs.{RelativeLemmas.{at_no_root, path_down, stands}, NormalGrammarLemmas.{takes_dots}}
+use Rattle.iref_model.proofs.RelativeLemmas.{relative_to-leads, relative_to-leads_full}
+use Rattle.iref_model.proofs.RelativeLemmas.{relative_to-only_path, relative_to-no_root, relative_to-least}
+use Rattle.iref_model.proofs.ResolvedLemmas.{resolved-readable}
+use Rattle.iref_model.proofs.{RelativeLemmas.{at_no_root, path_down, stands, resolved-full}, NormalGrammarLemmas.{takes_dots}}
 
 -- ---- what each segment passes
 
 module _ (test : Text → Bool) (dots : TakesDots test) where
-  all_climbs : (n : ℕ) → list_all test (climbs n) ≡ true
-  all_climbs zero = refl
-  all_climbs (suc n) = and_from _ _ dots.parent (all_climbs n)
-
   all_steps : (directory list : List Text) → list_all test list ≡ true → list_all test (steps_between directory list) ≡ true
-  all_steps directory list h = grind (arith, common_steps, steps-are, list_all-append, climbs, climb_between, all_climbs, names_down-all)
+  all_steps directory list h =
+      grind (arith, common_steps, steps-are, list_all-append, climbs, climb_between, in-parents test dots, names_down-all)
 
   pub all_leading : (target base : ReferenceValue) → list_all test target.path.segments ≡ true → list_all test (leading_path target base).segments ≡ true
   all_leading target base h = grind (arith, common_steps, normal-in, at_no_root, guarded-in, all_steps)
@@ -31,7 +31,9 @@ module _ (test : Text → Bool) (dots : TakesDots test) where
 pub readable-stands : (set : CharTests) (r : ReferenceValue) → is_readable set r ≡ true → stands r
 readable-stands set r readable = (readable_parts set r readable).follows
 
-only_path-readable : (set : CharTests) (target : ReferenceValue) (p : PathValue) → is_readable set target ≡ true → list_all (is_segment set) p.segments ≡ true → (follows_authority alone p && reads_as_path alone p) ≡ true → is_readable set (with_only_path p target) ≡ true
+pub only_path-readable : (set : CharTests) (target : ReferenceValue) (p : PathValue) → is_readable set target ≡ true
+    → list_all (is_segment set) p.segments ≡ true → (follows_authority alone p && reads_as_path alone p) ≡ true
+    → is_readable set (with_only_path p target) ≡ true
 unfolding is_readable
 only_path-readable set target p readable segments fits = grind (arith, readable_parts)
 
@@ -53,3 +55,8 @@ relative_to-readable set target base readable = by (schemes_agree target base &&
 pub relative_to-IsReadable : (set : CharTests) → AreAboveAscii set → (target base : ReferenceValue) → IsReadable set target → IsReadable set (relative_to target base)
 relative_to-IsReadable set above target base readable =
     (Decides-is_readable set above (relative_to target base)).0 (relative_to-readable set target base ((Decides-is_readable set above target).1 readable))
+
+-- the laws of relative references
+pub ruleset answers = (relative_to-readable, relative_to-only_path, relative_to-no_root, relative_to-least)
+
+pub ruleset laws = (answers, readable-stands, relative_to-leads, relative_to-leads_full, resolved-full, resolved-readable)

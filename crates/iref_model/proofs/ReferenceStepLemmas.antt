@@ -169,3 +169,16 @@ key-with_normal_path set r h =
 -- normalizing an absolute path under an authority leaves what the rewriting leaves of its text
 pub with_normal_path-removes : (r : ReferenceValue) → is_some r.authority ≡ true → r.path.absolute ≡ true → list_all (lacks slash) r.path.segments ≡ true → RemovesDotSegments (spell_path r.path) [] (spell_path (with_normal_path r).path)
 with_normal_path-removes r = path_removes_dot_segments (context_of r) r.path
+
+-- the laws of steps, by what they edit
+pub ruleset lists = (lazy_pushed-readable, pushed-readable, appended-readable, lazy_appended-readable, joined-readable)
+
+pub ruleset paths = (lists, popped-readable, replaced-readable, normalized-readable, cleared-readable, with_path-readable)
+
+pub ruleset normal_paths = (with_normal_path-readable, with_normal_path-again, key-with_normal_path, with_normal_path-removes)
+
+pub ruleset authorities = (with_user_info-readable, with_host-readable, with_port-readable, with_whole_authority-readable)
+
+pub ruleset components = (with_scheme-readable, with_authority-readable, with_query-readable, with_fragment-readable)
+
+pub ruleset laws = (paths, normal_paths, with_new_normal_path-readable, authorities, components)

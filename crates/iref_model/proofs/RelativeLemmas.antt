@@ -1,7 +1,7 @@
 -- A relative reference leads back to its target, and none climbs less.
 use Rattle.std.proofs.Common.{arith, ◌≡◌, ◌≤◌, Bool, true, false, cond, ◌&&◌, ◌||◌, List, [], ◌∷◌, ◌++◌, refl, sym, ◌∙◌, ap, Option, Some, None, option_map, is_some, is_none, codes, true≢false}
 use Rattle.std.proofs.{lemmas.Grind.{common_steps}, lemmas.Bool.{and_parts}}
-use Rattle.std.specs.{Option.{option_or}, Str.{str_to_ascii_lowercase}}
+use Rattle.std.specs.{Option.{option_or}}
 use Rattle.percent_encoding.specs.Percent.{percent_decode}
 use Rattle.iref_grammar.specs.{declared.context.PathContext.{PathContext}, Rules.{Text}, Texts.{is_empty, all_but_last}}
 use Rattle.iref_grammar.specs.{Authority.{AuthorityValue}, PathValue.{PathValue}}
@@ -45,8 +45,7 @@ unfolding path_key
 path_key-normal p = ap decoded_path (normal_again p)
 
 under_root : (has_scheme has_authority : Bool) (segments : List Text) → let context : PathContext = record { has_scheme = has_scheme; has_authority = has_authority } in follows_authority context (at_root segments) ≡ true
-under_root has_scheme true segments = refl
-under_root has_scheme false segments = refl
+under_root has_scheme has_authority segments = grind arith
 
 path_key-rooted : (context : PathContext) (segments : List Text) → path_key (guarded context (normal (at_root segments))) ≡ path_key (at_root segments)
 path_key-rooted context segments = path_key-normalized context (at_root segments) (under_root context.has_scheme context.has_authority segments)
@@ -63,14 +62,8 @@ key_under base path query fragment = key_of (key base).scheme (key base).authori
 
 -- a reference with a scheme, to itself
 pub resolved-full : (base r : ReferenceValue) → is_some r.scheme ≡ true → stands r → key (resolved base r) ≡ key r
-unfolding key resolved guarded
-resolved-full base r full stand = by r.scheme r.authority r.path r.query r.fragment full stand
-  where
-    by : (scheme : Option Text) (authority : Option AuthorityValue) (path : PathValue) (query fragment : Option Text) → is_some scheme ≡ true → let r = parts scheme authority path query fragment in stands r → key (resolved base r) ≡ key r
-    by None authority path query fragment full stand = absurd (true≢false (sym full))
-    by (Some s) authority path query fragment full stand =
-        ap (λ p. key_of (Some (str_to_ascii_lowercase s)) (option_map authority_key authority) p query fragment)
-        (path_key-normalized (context_of (parts (Some s) authority path query fragment)) path stand)
+unfolding key resolved
+resolved-full base r full stand = grind (arith, path_key-normalized)
 
 -- a path from the root, to that path
 pub resolved-rooted : (base : ReferenceValue) (segments : List Text) (query fragment : Option Text) → key (resolved base (parts None None (at_root segments) query fragment)) ≡ key_under base (path_key (at_root segments)) query fragment
@@ -93,18 +86,9 @@ resolved-empty base query fragment stand = ap (λ p. key_under base p (option_or
 -- another relative path, to that path after the base's directory
 pub resolved-relative : (base : ReferenceValue) (segments : List Text) (query fragment : Option Text) → base.path.absolute ≡ true → is_empty segments ≡ false
     → key (resolved base (parts None None (at_no_root segments) query fragment)) ≡ key_under base (path_key (at_root (all_but_last base.path.segments ++ segments))) query fragment
-unfolding key resolved guarded
+unfolding key resolved
 resolved-relative base [] query fragment root some = absurd (true≢false some)
-resolved-relative base (s ∷ rest) query fragment root some = by base.authority base.path.segments base.path.absolute root
-  where
-    by : (authority : Option AuthorityValue) (own : List Text) (absolute : Bool) → absolute ≡ true
-        → let base = parts base.scheme authority (record { absolute = absolute; segments = own }) base.query base.fragment in key (resolved base (parts None None (at_no_root (s ∷ rest)) query fragment)) ≡ key_under base (path_key (at_root (all_but_last own ++ s ∷ rest))) query fragment
-    by authority own false root = absurd (true≢false (sym root))
-    by None own true root = ap (λ p. key_of (key base).scheme None p query fragment) (path_key-rooted (record { has_scheme = is_some base.scheme; has_authority = false }) (all_but_last own ++ s ∷ rest))
-    by (Some a) [] true root = ap (λ p. key_of (key base).scheme (Some (authority_key a)) p query fragment) (path_key-rooted (record { has_scheme = is_some base.scheme; has_authority = true }) (s ∷ rest))
-    by (Some a) (t ∷ own) true root =
-        ap (λ p. key_of (key base).scheme (Some (authority_key a)) p query fragment)
-        (path_key-rooted (record { has_scheme = is_some base.scheme; has_authority = true }) (all_but_last (t ∷ own) ++ s ∷ rest))
+resolved-relative base (s ∷ rest) query fragment root some = grind (arith, path_key-rooted)
 
 -- ---- where scheme and authority agree
 
@@ -219,30 +203,12 @@ relative_to-no_root target base agree same root base_root = grind (arith, relati
 -- how many `..` the answer has, at most
 parents_guarded : (directory list : List Text) → are_names list ≡ true → count_parents (guarded alone (at_no_root (steps_between directory list))).segments ≡ climb_between directory list
 unfolding guarded
-parents_guarded directory list h = by (reads_as_path alone (at_no_root (steps_between directory list)))
-  where
-    by : (b : Bool) → count_parents (cond b (at_no_root (steps_between directory list)) (with_dot (at_no_root (steps_between directory list)))).segments ≡ climb_between directory list
-    by true = parents-steps directory list h
-    by false = parents-dotted (steps_between directory list) ∙ parents-steps directory list h
+parents_guarded directory list h = grind (arith, parents-steps, parents-dotted)
 
 answer_parents : (target base : ReferenceValue) → schemes_agree target base ≡ true → have_same_authority target base ≡ true → target.path.absolute ≡ true → base.path.absolute ≡ true
     → count_parents (relative_to target base).path.segments ≤ climb_between (directory_names base.path) (normal_segments target.path)
 unfolding relative_to key
-answer_parents target base agree same root base_root =
-    by (schemes_agree target base) (have_same_authority target base) (is_same_place target base) target.path.absolute base.path.absolute agree same root base_root (normal_segments target.path) (names target.path.absolute target.path.segments root)
-  where
-    names : (absolute : Bool) (segments : List Text) → absolute ≡ true → let p : PathValue = record { absolute = absolute; segments = segments } in are_names (normal_segments p) ≡ true
-    names true segments e = names-normal segments
-    names false segments e = absurd (true≢false (sym e))
-
-    by : (agree same range root base_root : Bool) → agree ≡ true → same ≡ true → root ≡ true → base_root ≡ true → (list : List Text) → are_names list ≡ true
-        → count_parents (cond (agree && same) (cond range (with_only_path (at_no_root []) target) (cond root (with_only_path (guarded alone (cond base_root (at_no_root (path_down base.path list)) (normal target.path))) target) target)) target).path.segments ≤ climb_between (directory_names base.path) list
-    by false same range root base_root e f h k list names = absurd (true≢false (sym e))
-    by true false range root base_root e f h k list names = absurd (true≢false (sym f))
-    by true true range false base_root e f h k list names = absurd (true≢false (sym h))
-    by true true range true false e f h k list names = absurd (true≢false (sym k))
-    by true true true true true e f h k list names = omega arith
-    by true true false true true e f h k list names = (let is = parents_guarded (directory_names base.path) list names in omega (arith, is))
+answer_parents target base agree same root base_root = grind (arith, parents_guarded, names-normal)
 
 -- no relative path that leads to the target climbs less
 pub relative_to-least : (target base : ReferenceValue) → is_some base.scheme ≡ true → stands target → schemes_agree target base ≡ true → have_same_authority target base ≡ true → target.path.absolute ≡ true → base.path.absolute ≡ true

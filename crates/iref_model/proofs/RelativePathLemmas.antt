@@ -4,11 +4,12 @@ use Rattle.iref_grammar.specs.{Rules.{Text}, Texts.{is_empty}, Contexts.{alone, 
 use Rattle.iref_model.specs.NormalList.{staying_names, normal_segments, without_lone_empty, open_parents}
 use Rattle.iref_model.specs.Relativized.{steps_by_text, shortened}
 use Rattle.iref_model.proofs.{JoinedLemmas.{are_names, climbs}, SettledLemmas.{leading}}
+use Rattle.iref_model.proofs.FitsLemmas.{is_empty-append}
 use Rattle.iref_model.proofs.WalkLemmas.{ended, reached, normal-walk, same_normal, LeadAlike, alike-shortened}
 use Rattle.iref_model.proofs.WeightLemmas.{path, weight, weight-append, weight-climbs, walk_weighs, adds_nothing, nothing-added, added_weighs, added_some, added_names}
 use Rattle.iref_model.proofs.{AddedLemmas.{added_light}, StepsLemmas.{common, steps-lone, steps_from, steps-front}}
 use Rattle.iref_model.proofs.StepsWeightLemmas.{guarded_weight, guarded-climbs, relative_light, climb_light}
-use Rattle.iref_model.proofs.DividedLemmas.{is_empty-append, normal-some, IsDivided, above_steps, divided}
+use Rattle.iref_model.proofs.DividedLemmas.{normal-some, IsDivided, above_steps, divided}
 
 -- ---- lists that are not empty
 

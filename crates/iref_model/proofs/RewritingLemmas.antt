@@ -1,5 +1,5 @@
 -- `remove_dot_segments` on the text of an absolute path gives the text of its normal path.
-use Rattle.std.proofs.Common.{◌≡◌, ℕ, zero, suc, ◌+◌, ◌≤◌, Bool, true, false, not, ◌||◌, List, [], ◌∷◌, ◌++◌, length, take, refl, sym, ◌∙◌, ap, subst, arith, append_assoc, ◌==◌, codes, bytes_eq, true≢false}
+use Rattle.std.proofs.Common.{◌≡◌, ℕ, zero, suc, ◌+◌, ◌≤◌, Bool, true, false, not, List, [], ◌∷◌, ◌++◌, length, refl, sym, ◌∙◌, ap, subst, arith, append_assoc, codes, bytes_eq, true≢false}
 use Rattle.std.proofs.{lemmas.Grind.{common_steps}, lemmas.List.{append-nil, length-append}}
 use Rattle.std.proofs.lemmas.Slice.Eq.{bytes_eq-Decides}
 use Rattle.std.specs.{List.{list_all, join_with_byte}, Char.{char_set_contains}}
@@ -46,43 +46,14 @@ without_last-slashed (s ∷ names) h =
 
 -- ---- the tests of one step
 
-abbrev head_or : ℕ → Text → ℕ
-head_or d [] = d
-head_or d (c ∷ cs) = c
-
-abbrev tail_of : Text → Text
-tail_of [] = []
-tail_of (c ∷ cs) = cs
-
-abbrev item_at_2 : Text → ℕ
-item_at_2 x = head_or 0 (tail_of x)
-
-abbrev item_at_3 : Text → ℕ
-item_at_3 x = head_or 0 (tail_of (tail_of x))
-
-dot_is_no_slash : ◌≡◌ {A = ℕ} 46 47 → ⊥
-dot_is_no_slash e = true≢false (ap (λ n. n == 46) e)
-
 lacks_later : (c : ℕ) (s : Text) → lacks slash (c ∷ s) ≡ true → lacks slash s ≡ true
 lacks_later c s h = grind arith
 
-lacks_first_slash : (c : ℕ) (s : Text) → lacks slash (c ∷ s) ≡ true → 47 ≡ c → ⊥
-lacks_first_slash c s h e = true≢false (sym h ∙ (λ i. not ((sym e i == slash) || char_set_contains s slash)))
-
-not_dot : (s : Text) → is_name s ≡ true → s ≡ codes "." → ⊥
-not_dot s h e = true≢false (sym h ∙ ap is_name e)
-
-refused : (front text : Text) → (front ≡ text → ⊥) → bytes_eq front text ≡ false
-refused front text h = grind (arith, bytes_eq-Decides)
-
 -- a name with a segment after it
 dot_middle : (s y : Text) → lacks slash s ≡ true → is_name s ≡ true → begins_with (codes "/./") (slash ∷ s ++ slash ∷ y) ≡ false
-dot_middle s y h k = refused (codes "/./") (take 3 (slash ∷ s ++ slash ∷ y)) (by s h k)
-  where
-    by : (s : Text) → lacks slash s ≡ true → is_name s ≡ true → codes "/./" ≡ take 3 (slash ∷ s ++ slash ∷ y) → ⊥
-    by [] h k e = dot_is_no_slash (ap item_at_2 e)
-    by (c ∷ []) h k e = not_dot (c ∷ []) k (ap (λ n. n ∷ []) (sym (ap item_at_2 e)))
-    by (c ∷ d ∷ s) h k e = lacks_first_slash d s (lacks_later c (d ∷ s) h) (ap item_at_3 e)
+dot_middle [] y h k = grind arith
+dot_middle (c ∷ []) y h k = grind arith
+dot_middle (c ∷ d ∷ s) y h k = grind arith
 
 dot_end_middle : (s y : Text) → bytes_eq (slash ∷ s ++ slash ∷ y) (codes "/.") ≡ false
 dot_end_middle s y = grind (arith, common_steps)
@@ -92,7 +63,7 @@ dot_last : (s : Text) → lacks slash s ≡ true → begins_with (codes "/./") (
 dot_last s h = grind arith
 
 dot_end_last : (s : Text) → is_name s ≡ true → bytes_eq (slash ∷ s) (codes "/.") ≡ false
-dot_end_last s k = refused (slash ∷ s) (codes "/.") (λ e. not_dot s k (ap tail_of e))
+dot_end_last s k = grind arith
 
 -- ---- the first segment, cut off
 
@@ -137,9 +108,6 @@ shorter_output front h = without_last-slashed (staying_before front 0) (in-stayi
 longer_output : (front : List Text) (s : Text) → is_name s ≡ true → output_of front ++ slash ∷ s ≡ output_of (front ++ s ∷ [])
 longer_output front s h = slashed-snoc (staying_before front 0) s ∙ ap slashed (sym (stay_name front s h))
 
-closed_output : (front : List Text) → output_of front ++ slash ∷ [] ≡ slashed (staying_before front 0 ++ [] ∷ [])
-closed_output front = slashed-snoc (staying_before front 0) []
-
 -- a segment is `.`, `..` or a name
 by_kind : (P : Text → Type 0) → P (codes ".") → P (codes "..") → ((s : Text) → is_name s ≡ true → P s) → (s : Text) → P s
 by_kind P dot parent name s = grind (arith, bytes_eq-Decides)
@@ -169,7 +137,7 @@ last_steps front h =
       steps = 2;
       within = omega arith;
       leaves = name_last [] (output_of front) refl refl
-          ∙ (λ i. record { input = []; output = closed_output front i })
+          ∙ (λ i. record { input = []; output = slashed-snoc (staying_before front 0) [] i })
           ∙ (λ i. record { input = []; output = slashed (sym (stay_dot front) i ++ [] ∷ []) });
     })
     (λ k. record {
@@ -177,7 +145,7 @@ last_steps front h =
       within = omega arith;
       leaves = name_last [] (without_last_segment (output_of front)) refl refl
           ∙ (λ i. record { input = []; output = shorter_output front h i ++ slash ∷ [] })
-          ∙ (λ i. record { input = []; output = closed_output (front ++ codes ".." ∷ []) i });
+          ∙ (λ i. record { input = []; output = slashed-snoc (staying_before (front ++ codes ".." ∷ []) 0) [] i });
     })
     (λ s name k. record {
       steps = 1;
@@ -208,9 +176,7 @@ uses_up front s (t ∷ rest) h k =
 spelled_items : (list : List Text) → is_empty list ≡ false → slashed list ≡ spell_path (record { absolute = true; segments = without_lone_empty list })
 unfolding spell_path
 spelled_items [] h = absurd (true≢false h)
-spelled_items ([] ∷ []) h = refl
-spelled_items ([] ∷ t ∷ list) h = sym (slashed-joined [] (t ∷ list))
-spelled_items ((c ∷ s) ∷ list) h = sym (slashed-joined (c ∷ s) list)
+spelled_items (s ∷ list) h = grind (arith, slashed-joined)
 
 pub path_uses_up : (segments : List Text) → list_all (lacks slash) segments ≡ true → let p : PathValue = record { absolute = true; segments = segments } in UsesUp (spell_path p) [] (spell_path (normal p))
 unfolding spell_path normal_segments Rattle.iref_model.specs.NormalList.staying_names
@@ -241,16 +207,10 @@ not_lone [] = refl
 not_lone (s ∷ list) = grind arith
 
 -- under an authority an absolute normal path needs no guard
-pub normalized-under_authority : (scheme : Bool) (segments : List Text) → let p : PathValue = record { absolute = true; segments = segments } in normalized (record { has_scheme = scheme; has_authority = true }) p ≡ normal p
+pub normalized-under_authority : (context : PathContext) (p : PathValue) → context.has_authority ≡ true → p.absolute ≡ true
+    → normalized context p ≡ normal p
 unfolding guarded
-normalized-under_authority scheme segments = grind (arith, normal_segments-is)
-
--- `normalize` on an absolute path under an authority leaves what the rewriting leaves
-pub removes_dot_segments : (scheme : Bool) (segments : List Text) → list_all (lacks slash) segments ≡ true
-    → let p : PathValue = record { absolute = true; segments = segments } in RemovesDotSegments (spell_path p) [] (spell_path (normalized (record { has_scheme = scheme; has_authority = true }) p))
-removes_dot_segments scheme segments h =
-    let up = path_uses_up segments h in
-    (up.steps, up.leaves ∙ (λ i. record { input = []; output = spell_path (sym (normalized-under_authority scheme segments) i) }))
+normalized-under_authority context p a b = grind (arith, normal_segments-is)
 
 -- and what is computed by the rewriting
 pub dot_segments_removed-is : (scheme : Bool) (segments : List Text) → list_all (lacks slash) segments ≡ true
@@ -259,7 +219,7 @@ dot_segments_removed-is scheme segments h =
     let p : PathValue = record { absolute = true; segments = segments } in
     let up = path_uses_up segments h in
     (λ i. (more_steps up.steps (length (spell_path p)) (record { input = spell_path p; output = [] }) (spell_path (normal p)) up.within up.leaves i).output)
-    ∙ (λ i. spell_path (sym (normalized-under_authority scheme segments) i))
+    ∙ (λ i. spell_path (sym (normalized-under_authority (record { has_scheme = scheme; has_authority = true }) p refl refl) i))
 
 -- the rewriting leaves one output
 pub removes-one : (input output one other : Text) → RemovesDotSegments input output one → RemovesDotSegments input output other → one ≡ other
@@ -269,13 +229,11 @@ removes-one input output one other a b =
     let second = more_steps b.0 (a.0 + b.0) start other (omega arith) b.1 in
     λ i. ((sym first ∙ second) i).output
 
--- the same, wherever an authority stands before an absolute path
+-- `normalize` on an absolute path under an authority leaves what the rewriting leaves
 pub path_removes_dot_segments : (context : PathContext) (p : PathValue) → context.has_authority ≡ true → p.absolute ≡ true → list_all (lacks slash) p.segments ≡ true
     → RemovesDotSegments (spell_path p) [] (spell_path (normalized context p))
-path_removes_dot_segments context p a b h = by context.has_authority p.absolute a b
-  where
-    by : (authority absolute : Bool) → authority ≡ true → absolute ≡ true → let before : PathContext = record { has_scheme = context.has_scheme; has_authority = authority } in let q : PathValue = record { absolute = absolute; segments = p.segments } in
-        RemovesDotSegments (spell_path q) [] (spell_path (normalized before q))
-    by true true a b = removes_dot_segments context.has_scheme p.segments h
-    by true false a b = absurd (true≢false (sym b))
-    by false absolute a b = absurd (true≢false (sym a))
+path_removes_dot_segments context p a b h =
+    let up = path_uses_up p.segments h in
+    subst (λ q. RemovesDotSegments (spell_path p) [] (spell_path q)) (sym (normalized-under_authority context p a b))
+    (subst (λ flag. let q = record p { absolute = flag } in RemovesDotSegments (spell_path q) [] (spell_path (normal q))) (sym b)
+    (up.steps, up.leaves))

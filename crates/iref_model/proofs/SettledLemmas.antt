@@ -1,10 +1,10 @@
 -- A normal list is its own normal list.
-use Rattle.std.proofs.Common.{◌≡◌, ℕ, Bool, true, false, not, cond, ◌&&◌, List, [], ◌∷◌, ◌++◌, refl, sym, ◌∙◌, ap, arith, true≢false}
+use Rattle.std.proofs.Common.{◌≡◌, ℕ, Bool, true, false, not, cond, List, [], ◌∷◌, ◌++◌, refl, sym, ◌∙◌, ap, arith, true≢false}
 use Rattle.std.proofs.lemmas.Grind.{common_steps}
 use Rattle.iref_grammar.specs.{Rules.{Text}, Texts.{is_empty}, PathValue.{PathValue}}
-use Rattle.iref_model.specs.NormalList.{is_name, staying_names, stays_before, ends_in_dots, closed, without_lone_empty, kept_segments, normal_segments, normal, open_parents}
+use Rattle.iref_model.specs.NormalList.{is_name, staying_names, ends_in_dots, closed, without_lone_empty, kept_segments, normal_segments, normal, open_parents}
 use Rattle.iref_model.proofs.NormalLemmas.{excess-is}
-use Rattle.iref_model.proofs.JoinedLemmas.{open-append, staying-append, are_names, names_first, open-names, staying-names, are_names-staying, climbs, open-climbs, staying-climbs}
+use Rattle.iref_model.proofs.JoinedLemmas.{open-append, staying-append, are_names, all_first, open-names, staying-names, are_names-staying, climbs, open-climbs, staying-climbs}
 
 -- ---- the last segment
 
@@ -15,18 +15,14 @@ ends-append (f ∷ g ∷ front) s rest = ends-append (g ∷ front) s rest
 
 pub ends-names : (list : List Text) → are_names list ≡ true → ends_in_dots list ≡ false
 ends-names [] h = refl
-ends-names (s ∷ []) h = ap not (names_first s [] h).0
-ends-names (s ∷ t ∷ rest) h = ends-names (t ∷ rest) (names_first s (t ∷ rest) h).1
+ends-names (s ∷ []) h = ap not (all_first is_name s [] h).0
+ends-names (s ∷ t ∷ rest) h = ends-names (t ∷ rest) (all_first is_name s (t ∷ rest) h).1
 
 -- a last name stays
 pub last_stays : (s : Text) (rest : List Text) → ends_in_dots (s ∷ rest) ≡ false → is_empty (staying_names (s ∷ rest)) ≡ false
 unfolding staying_names
 last_stays s [] h = grind arith
-last_stays s (t ∷ rest) h = by (is_name s && stays_before (t ∷ rest)) (staying_names (t ∷ rest)) (last_stays t rest h)
-  where
-    by : (b : Bool) (names : List Text) → is_empty names ≡ false → is_empty (cond b (s ∷ names) names) ≡ false
-    by true names h = refl
-    by false names h = h
+last_stays s (t ∷ rest) h = grind (arith, last_stays t rest)
 
 -- ---- lists of `..` and names after them
 
@@ -51,8 +47,7 @@ ends-settled n (s ∷ names) h ends = ends-append (climbs n) s names ∙ ends-na
 
 pub kept_at : (absolute : Bool) (segments : List Text) (n : ℕ) (names : List Text) → let p : PathValue = record { absolute = absolute; segments = segments } in
     (absolute ≡ false → open_parents segments ≡ n) → (absolute ≡ true → 0 ≡ n) → staying_names segments ≡ names → kept_segments p ≡ climbs n ++ names
-kept_at true segments n names relative rooted stay = λ i. climbs (rooted refl i) ++ stay i
-kept_at false segments n names relative rooted stay = λ i. climbs ((excess-is segments ∙ relative refl) i) ++ stay i
+kept_at absolute segments n names relative rooted stay = grind (arith, excess-is)
 
 pub normal_from : (p : PathValue) (ends : Bool) (list : List Text) → ends_in_dots p.segments ≡ ends → kept_segments p ≡ list → normal_segments p ≡ without_lone_empty (cond ends (closed list) list)
 unfolding normal_segments
@@ -70,8 +65,7 @@ kept-is true segments = refl
 kept-is false segments = λ i. climbs (excess-is segments i) ++ staying_names segments
 
 leading_rooted : (absolute : Bool) (segments : List Text) → absolute ≡ true → leading absolute segments ≡ 0
-leading_rooted true segments e = refl
-leading_rooted false segments e = absurd (true≢false (sym e))
+leading_rooted absolute segments e = grind arith
 
 settled_kept : (absolute : Bool) (segments : List Text) → ends_in_dots segments ≡ false → IsSettled absolute (climbs (leading absolute segments) ++ staying_names segments)
 settled_kept absolute segments e =

@@ -77,7 +77,7 @@ pub in-staying : (test : Text → Bool) (list : List Text) (behind : ℕ) → li
 in-staying test [] behind h = refl
 in-staying test (s ∷ rest) behind h = grind (arith, in-staying test rest behind)
 
-in-parents : (test : Text → Bool) → TakesDots test → (k : ℕ) → list_all test (replicate k (codes "..")) ≡ true
+pub in-parents : (test : Text → Bool) → TakesDots test → (k : ℕ) → list_all test (replicate k (codes "..")) ≡ true
 in-parents test takes zero = refl
 in-parents test takes (suc k) = and_from _ _ takes.parent (in-parents test takes k)
 

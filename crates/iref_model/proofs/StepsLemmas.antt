@@ -1,12 +1,12 @@
 -- The steps from a directory to a normal list: where they lead, and how long they are.
-use Rattle.std.proofs.Common.{◌≡◌, ℕ, suc, ◌+◌, ◌-◌, ◌≤◌, Bool, true, false, cond, List, [], ◌∷◌, ◌++◌, length, take, drop, refl, sym, ◌∙◌, ap, arith, codes, append_assoc, length-append, bytes_eq}
+use Rattle.std.proofs.Common.{◌≡◌, ℕ, suc, ◌+◌, ◌-◌, ◌≤◌, true, false, List, [], ◌∷◌, ◌++◌, length, take, drop, refl, sym, ◌∙◌, ap, arith, codes, append_assoc, length-append, bytes_eq}
 use Rattle.std.proofs.{lemmas.List.{drop-append-le}, lemmas.List.Sums.{common_prefix_len-le}}
-use Rattle.std.proofs.{Math.Seq.{drop-append-add}, Math.Numerals.{one-add}}
+use Rattle.std.proofs.{Math.Seq.{drop-append-add}, lemmas.Slice.Eq.{bytes_eq-Decides}}
 use Rattle.std.specs.{List.{common_prefix_len}, Cmp.Lexicographic.{bytes_decides}}
 use Rattle.iref_grammar.specs.{Rules.{Text}, Texts.{all_but_last}}
 use Rattle.iref_model.specs.{NormalList.{without_lone_empty, is_name}, Relative.{last_or_empty}}
 use Rattle.iref_model.specs.Relativized.{steps_by_text}
-use Rattle.iref_model.proofs.{JoinedLemmas.{are_names, names_first, climbs}, LeadingLemmas.{divided_last}}
+use Rattle.iref_model.proofs.{JoinedLemmas.{are_names, all_first, climbs}, LeadingLemmas.{divided_last, take-step}}
 
 -- ---- the longest common beginning, by text
 
@@ -23,15 +23,7 @@ common-append (s ∷ front) one other = grind (arith, same_text, common-append f
 pub take-common : (one other : List Text) → take (common one other) one ≡ take (common one other) other
 take-common [] other = refl
 take-common (x ∷ one) [] = refl
-take-common (x ∷ one) (y ∷ other) = by (bytes_eq x y) refl (take-common one other)
-  where
-    by : (b : Bool) → bytes_eq x y ≡ b → take (common one other) one ≡ take (common one other) other
-        → take (cond b (1 + common one other) 0) (x ∷ one) ≡ take (cond b (1 + common one other) 0) (y ∷ other)
-    by true e h =
-        (λ i. take (one-add (common one other) i) (x ∷ one))
-        ∙ (λ i. (bytes_decides x y).0 e i ∷ h i)
-        ∙ (λ i. take (sym (one-add (common one other)) i) (y ∷ other))
-    by false e h = refl
+take-common (x ∷ one) (y ∷ other) = grind (arith, take-step, bytes_eq-Decides, take-common one other)
 
 -- names and `..` have nothing in common
 name_other : (s : Text) → is_name s ≡ true → bytes_eq s (codes "..") ≡ false
@@ -39,7 +31,7 @@ name_other s h = grind arith
 
 pub common-climbs : (names : List Text) (n : ℕ) (list : List Text) → are_names names ≡ true → common names (climbs (suc n) ++ list) ≡ 0
 common-climbs [] n list h = refl
-common-climbs (s ∷ names) n list h = grind (arith, names_first, name_other)
+common-climbs (s ∷ names) n list h = grind (arith, all_first is_name, name_other)
 
 -- ---- the last segment of lists joined
 
@@ -60,10 +52,7 @@ length-front s rest = let is = length-append (all_but_last (s ∷ rest)) (last_o
 
 -- a list that is one empty segment leads as the empty list does
 pub steps-lone : (directory list : List Text) → steps_by_text directory (without_lone_empty list) ≡ steps_by_text directory list
-steps-lone directory [] = refl
-steps-lone directory ([] ∷ []) = refl
-steps-lone directory ([] ∷ t ∷ rest) = refl
-steps-lone directory ((c ∷ s) ∷ rest) = refl
+steps-lone directory list = grind arith
 
 abbrev pub steps_from : List Text → List Text → List Text
 steps_from more list = climbs (length more - common more (all_but_last list)) ++ drop (common more (all_but_last list)) list

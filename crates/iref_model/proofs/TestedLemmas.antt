@@ -1,5 +1,5 @@
 -- The answer is the first of the shortest candidates that pass the tests.
-use Rattle.std.proofs.Common.{◌≡◌, Bool, true, false, not, cond, ◌&&◌, List, [], ◌∷◌, ◌++◌, filter, refl, ◌∙◌, ap, Option, None, is_some}
+use Rattle.std.proofs.Common.{arith, ◌≡◌, Bool, true, not, cond, ◌&&◌, List, [], ◌∷◌, ◌++◌, filter, refl, ◌∙◌, ap, Option, None, is_some}
 use Rattle.std.proofs.lemmas.List.Elements.{filter-append}
 use Rattle.iref_grammar.specs.{Characters.{CharTests}, Contexts.{alone}, Reference.{ReferenceValue}}
 use Rattle.iref_model.specs.{Guard.{guarded}, NormalList.{normal, normal_segments}, Relative.{with_only_path}}
@@ -9,8 +9,7 @@ use Rattle.iref_model.specs.RelativizedTests.{is_settled, is_reachable, leading_
 use Rattle.iref_model.proofs.LeadingCandidateLemmas.{whole-test, climb-test, authority-test, absolute-test, relative-test, fragment-test, tail-test}
 
 filter_step : (b : Bool) (r : ReferenceValue) (rest : List ReferenceValue) (o : Option ReferenceValue) → o ≡ shortest rest → cond b (shorter r o) o ≡ shortest (cond b (r ∷ rest) rest)
-filter_step true r rest o e = ap (shorter r) e
-filter_step false r rest o e = e
+filter_step b r rest o e = grind arith
 
 shortest_exact-filter : (target base : ReferenceValue) (list : List ReferenceValue) → shortest_exact target base list ≡ shortest (filter (is_exact target base) list)
 shortest_exact-filter target base [] = refl
@@ -18,12 +17,10 @@ shortest_exact-filter target base (r ∷ rest) = filter_step (is_exact target ba
 
 -- where the condition holds, the tests are the same
 kept_if : (test : ReferenceValue → Bool) (condition other : Bool) (r : ReferenceValue) → (condition ≡ true → test r ≡ other) → filter test (only_if condition r) ≡ only_if (condition && other) r
-kept_if test true other r h = ap (λ b. only_if b r) (h refl)
-kept_if test false other r h = refl
+kept_if test condition other r h = grind arith
 
 kept_always : (test : ReferenceValue → Bool) (condition : Bool) (r : ReferenceValue) → (condition ≡ true → test r ≡ true) → filter test (only_if condition r) ≡ only_if condition r
-kept_always test true r h = ap (λ b. only_if b r) (h refl)
-kept_always test false r h = refl
+kept_always test condition r h = grind arith
 
 module _ (set : CharTests) (target base : ReferenceValue) (are : AreReadable set target base) (full : is_some target.scheme ≡ true) where
   abbrev leads : ReferenceValue → Bool

@@ -1,5 +1,5 @@
 -- Keys tie exactly where they are the same, and tests of parts are true exactly where the keys of the parts are.
-use Rattle.std.proofs.Common.{arith, ◌≡◌, ◌↔◌, Bool, true, ◌&&◌, refl, sym, ap, ◌∙◌, Option, Some, None, is_eq, option_map, is_some, true≢false}
+use Rattle.std.proofs.Common.{arith, ◌≡◌, ◌↔◌, Bool, true, ◌&&◌, refl, sym, ap, ◌∙◌, Option, Some, None, is_eq, option_map}
 use Rattle.std.proofs.lemmas.Option.{same_Some}
 use Rattle.std.specs.{Option.{option_eq}, Hash.{HashWrites, option}}
 use Rattle.iref_grammar.specs.{Rules.{Text}, Keys.{text_order}, Authority.{AuthorityValue}, PathValue.{PathValue}}
@@ -26,10 +26,7 @@ references_tie = tied_exactly keys_total keys_separate
 -- of what may be absent
 pub options_tie_by : {A K : Type 0} (eq : A → A → Bool) (key : A → K) → ((x y : A) → (eq x y ≡ true) ↔ (key x ≡ key y))
     → (a b : Option A) → (option_eq eq a b ≡ true) ↔ (option_map key a ≡ option_map key b)
-options_tie_by eq key h None None = (λ _. refl, λ _. refl)
-options_tie_by eq key h None (Some y) = (λ e. absurd (true≢false (sym e)), λ e. absurd (true≢false (sym (ap is_some e))))
-options_tie_by eq key h (Some x) None = (λ e. absurd (true≢false (sym e)), λ e. absurd (true≢false (ap is_some e)))
-options_tie_by eq key h (Some x) (Some y) = (λ e. ap Some ((h x y).0 e), λ e. (h x y).1 (same_Some (key x) (key y) e))
+options_tie_by eq key h a b = grind (arith, same_Some)
 
 -- of two tests
 pub both_tie_by : (p q : Bool) {P Q : Type 0} → (p ≡ true) ↔ P → (q ≡ true) ↔ Q → ((p && q) ≡ true) ↔ (P × Q)

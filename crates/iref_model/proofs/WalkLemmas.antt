@@ -22,8 +22,7 @@ reached absolute directory opened list =
     ++ (without_last opened (staying_names directory) ++ list)
 
 leading-append : (absolute : Bool) (directory walk : List Text) → leading absolute (directory ++ walk) ≡ leading absolute directory + cond absolute 0 (open_parents walk - length (staying_names directory))
-leading-append true directory walk = omega arith
-leading-append false directory walk = open-append directory walk
+leading-append absolute directory walk = grind (arith, open-append)
 
 lone-closed : (list : List Text) → without_lone_empty (closed list) ≡ without_lone_empty (list ++ [] ∷ [])
 lone-closed [] = refl
@@ -120,9 +119,7 @@ climb-is (s ∷ rest) h =
 
 one_empty-is : (list : List Text) → is_one_empty list ≡ true → list ≡ [] ∷ []
 one_empty-is [] h = absurd (true≢false (sym h))
-one_empty-is ([] ∷ []) h = refl
-one_empty-is ([] ∷ t ∷ rest) h = absurd (true≢false (sym h))
-one_empty-is ((c ∷ s) ∷ rest) h = absurd (true≢false (sym h))
+one_empty-is (s ∷ rest) h = grind arith
 
 pub climb_alike : (list front : List Text) (n : ℕ) → list ≡ climbs (suc n) ++ [] ∷ [] → front ≡ climbs (suc n) → LeadAlike front list
 climb_alike list front n e f = rw (e, f) (alike-climb n)

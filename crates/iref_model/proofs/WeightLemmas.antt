@@ -59,10 +59,7 @@ parent_size s h = let is = ap length ((bytes_decides s (codes "..")).0 h) in ome
 -- one more segment before a walk with n open `..`: it is `..`, or `.`, or a name that stays or is taken
 heavier_by : (parent dot : Bool) (n size rest names : ℕ) → (parent ≡ true → 2 ≤ size) → names + 3 * n ≤ rest
     → cond ((not dot && not parent) && (n == 0)) (size + 1 + names) names + 3 * counted parent (not dot && not parent) n ≤ size + 1 + rest
-heavier_by true true n size rest names p h = let two = p refl in omega arith
-heavier_by true false n size rest names p h = let two = p refl in omega arith
-heavier_by false true n size rest names p h = omega arith
-heavier_by false false n size rest names p h = grind (arith, nat_tests)
+heavier_by parent dot n size rest names p h = grind (arith, nat_tests)
 
 heavier : (s : Text) (rest : List Text) (size : ℕ) → weight (staying_names rest) + 3 * open_parents rest ≤ size → weight (staying_names (s ∷ rest)) + 3 * open_parents (s ∷ rest) ≤ length s + 1 + size
 heavier s rest size h = grind (arith, common_steps, staying-cons, heavier_by, parent_size)
@@ -83,10 +80,7 @@ dots_weigh (s ∷ t ∷ rest) h = let later = dots_weigh (t ∷ rest) h in omega
 -- the only name that stays stands first
 first_stays : (parent dot : Bool) (n size : ℕ) (s : Text) (list : List Text) → is_empty (cond ((not dot && not parent) && (n == 0)) (s ∷ list) list) ≡ false → is_empty list ≡ true → 2 ≤ size
     → weight (cond ((not dot && not parent) && (n == 0)) (s ∷ list) list) + 3 * counted parent (not dot && not parent) n + 2 ≤ length s + 1 + size
-first_stays true true n size s list some none h = absurd (true≢false (sym none ∙ some))
-first_stays true false n size s list some none h = absurd (true≢false (sym none ∙ some))
-first_stays false true n size s list some none h = absurd (true≢false (sym none ∙ some))
-first_stays false false n size s list some none h = let nothing = ap weight (nothing-in list none) in grind (arith, nat_tests)
+first_stays parent dot n size s list some none h = let nothing = ap weight (nothing-in list none) in grind (arith, nat_tests)
 
 only_first : (s : Text) (rest : List Text) → is_empty (staying_names (s ∷ rest)) ≡ false → is_empty (staying_names rest) ≡ true → 2 ≤ weight rest
     → weight (staying_names (s ∷ rest)) + 3 * open_parents (s ∷ rest) + 2 ≤ length s + 1 + weight rest

@@ -1,4 +1,5 @@
 //! Laws of the comparison of references: each is the contract of a function that does nothing.
+#![tactic(auto, using(crate::proofs::KeyLemmas::laws))]
 
 ghost use Rattle.std.specs.{Prelude.{true, ◌≡◌, ◌↔◌}, Cmp.{IsTotalOrder}, Ordering.{on}};
 ghost use Rattle.iref_grammar.specs.Reference.{ReferenceValue};

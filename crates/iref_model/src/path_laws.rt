@@ -1,4 +1,5 @@
 //! Laws of paths: each is the contract of a function that does nothing.
+#![tactic(auto, using(crate::proofs::PathLawLemmas::laws))]
 
 ghost use Rattle.std.specs.{Prelude.{◌≡◌, Bool, true, ◌==◌, List, [], ◌↔◌}, List.{list_all}};
 ghost use Rattle.iref_grammar.specs.declared.context.PathContext.{PathContext};

@@ -1,4 +1,5 @@
 //! The laws of the shortest reference: each is the contract of a function that does nothing.
+#![tactic(auto, using(crate::proofs::RelativizedLawLemmas::laws))]
 
 ghost use Rattle.std.specs.Prelude.{◌≡◌, ◌≢◌, ◌≤◌, length, is_some, true, Some, None};
 ghost use Rattle.iref_grammar.specs.{CharTests, Text, ReferenceValue, is_readable, is_reference, read_reference, spell};

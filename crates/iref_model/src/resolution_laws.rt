@@ -1,4 +1,5 @@
 //! The laws of resolution and of relative references.
+#![tactic(auto, using(crate::proofs::ReadableRelativeLemmas::laws))]
 
 ghost use Rattle.std.specs.Prelude.{◌≡◌, is_some, true, false};
 ghost use Rattle.iref_grammar.specs.{CharTests, AreAboveAscii, ReferenceValue, IsReadable, is_readable, read_reference};

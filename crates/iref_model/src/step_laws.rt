@@ -1,4 +1,5 @@
 //! Laws of the edits of references: each is the contract of a function that does nothing.
+#![tactic(auto, using(crate::proofs::ReferenceStepLemmas::laws))]
 
 ghost use Rattle.std.specs.{Prelude.{◌≡◌, true, List, [], Option, is_some}, List.{list_all}};
 ghost use Rattle.iref_grammar.specs.{CharTests, Text, slash, is_scheme, is_segment, is_query, is_fragment, is_host};

@@ -3,9 +3,6 @@ use Rattle.iref_grammar.proofs.ReadableLemmas.{readable_read}
 use Rattle.iref_model.specs.Relative.{relative_to}
 use Rattle.iref_model.proofs.resolution_laws.relative_reference_is_readable.Goals as goal
 
-pub returns-clause-test : goal.returns-clause-test
-returns-clause-test c = λ set target base readable. relative_to-readable set target base readable
-
 pub returns-clause-rule : goal.returns-clause-rule
 returns-clause-rule c = λ set target base above readable. relative_to-IsReadable set above target base readable
 
