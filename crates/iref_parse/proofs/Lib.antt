@@ -1,5 +1,4 @@
 pub mod AsciiLemmas
-pub mod DecodedLemmas
 pub mod ScanLemmas
 pub mod DigitLemmas
 pub mod OctetLemmas

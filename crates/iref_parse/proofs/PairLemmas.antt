@@ -1,6 +1,6 @@
 -- Indices of two bytes that stand side by side.
-use Rattle.std.proofs.Common.{◌≡◌, ℕ, zero, suc, ◌+◌, ◌-◌, ◌<◌, ◌≤◌, List, [], ◌∷◌, Bool, true, false, not, cond, eqb, length, get_or, get_or-take, get_or-drop, take, drop, length-take-le, length-drop, bit_and, ◌&&◌, refl, sym, ap, ◌∙◌, arith}
-use Rattle.std.proofs.{lemmas.Bool.{true≢false, or_left, or_right, false_from_ne_true}, lemmas.Bool.Decides.{nat_tests}}
+use Rattle.std.proofs.Common.{◌≡◌, ℕ, zero, suc, ◌+◌, ◌-◌, ◌<◌, ◌≤◌, List, [], ◌∷◌, Bool, true, false, not, cond, eqb, length, get_or, get_or-take, get_or-drop, take, drop, length-take-le, length-drop, bit_and, ◌&&◌, refl, sym, ap, ◌∙◌, arith, ⊎_elim, nat_lt}
+use Rattle.std.proofs.{lemmas.Bool.{true≢false, or_left, or_right, false_from_ne_true, cases_lt}, lemmas.Bool.Decides.{nat_tests}}
 use Rattle.std.specs.List.{list_all}
 use Rattle.iref_parse.specs.{Lanes.{HasLanes}, Dots.{has_pair, is_pair}}
 use Rattle.iref_parse.proofs.PositionLemmas.{ends, low_end, high_end}
@@ -27,6 +27,12 @@ module _ (first second : ℕ) where
       let here = none 0 (omega arith) in
       let behind = no_pair (y ∷ rest) (λ k l. sym (pair_behind x (y ∷ rest) k) ∙ none (suc k) (omega arith)) in
       grind arith
+
+  -- the first pair tells whether there is one
+  pub near_found : (text : List ℕ) (n : ℕ) → ((k : ℕ) → 0 ≤ k → k < n → k + 1 < length text → is_pair first second text k ≡ false) → (n < length text → (n + 1 < length text) × (is_pair first second text n ≡ true))
+      → nat_lt n (length text) ≡ has_pair first second text
+  near_found text n none found = ⊎_elim (λ l. let yes = pair_at text n (found l).0 (found l).1 in grind (arith, nat_tests))
+      (λ l. let no = no_pair text (λ k m. none k (omega arith) (omega arith) m) in grind (arith, nat_tests)) (cases_lt n (length text))
 
   -- the mark of a pair at index k
   abbrev pub pairs_at : List ℕ → ℕ → ℕ

@@ -1,5 +1,5 @@
 -- The first index that is marked, by marks of 16 at a time.
-use Rattle.std.proofs.Common.{◌≡◌, ◌≢◌, ℕ, ◌+◌, ◌-◌, ◌<◌, ◌≤◌, List, [], ◌∷◌, ◌++◌, take, drop, true, false, cond, eqb, length, get_or, not, replicate, bit_or, refl, sym, ap, subst, ◌∙◌, arith, ⊎_elim, true≢false}
+use Rattle.std.proofs.Common.{◌≡◌, ◌≢◌, ℕ, ◌+◌, ◌-◌, ◌<◌, ◌≤◌, List, [], ◌∷◌, ◌++◌, take, drop, true, false, cond, eqb, length, get_or, not, replicate, refl, sym, ap, subst, ◌∙◌, arith, ⊎_elim, true≢false}
 use Rattle.std.proofs.{lemmas.Bool.{cases_lt, eq-eqb, eqb-true}, lemmas.Bool.Decides.{nat_tests}}
 use Rattle.std.proofs.lemmas.List.Elements.{All-from_get_or}
 use Rattle.std.proofs.lemmas.List.Sums.{AllPass-from_list_all, list_all-from_AllPass, position_or_len_is, passes_at_first, prefix_len-le-length}
@@ -61,9 +61,6 @@ module _ (mark : ℕ → ℕ) (n at : ℕ) (old : IsClearFront mark n at) where
 -- a byte that is one of two
 abbrev pub either_at : ℕ → ℕ → List ℕ → ℕ → ℕ
 either_at first second bytes k = cond (char_set_contains (first ∷ second ∷ []) (get_or bytes k 0)) 255 0
-
-pub either_marked : (first second b : ℕ) → bit_or (cond (eqb b first) 255 0) (cond (eqb b second) 255 0) ≡ cond (char_set_contains (first ∷ second ∷ []) b) 255 0
-either_marked first second b = grind (arith, nat_tests)
 
 -- the first of two marks is at the end of the clear front
 pub position_from_clear : (first second : ℕ) (bytes : List ℕ) (at : ℕ) → IsClearFront (either_at first second bytes) (length bytes) at → (at < length bytes → either_at first second bytes at ≢ 0)

@@ -105,8 +105,5 @@ fn are_parts<C: CharSet>(parts: AuthoritySlices<'_>) -> bool
 pub fn is_authority<C: CharSet>(text: &str) -> bool
     ensures { result ≡ authority.is_authority C.tests text.now }
 {
-    if is_ipv6_and_port(text) {
-        return true;
-    }
-    is_host::<C>(text) || are_parts::<C>(split_parts(text))
+    is_ipv6_and_port(text) || is_host::<C>(text) || are_parts::<C>(split_parts(text))
 }

@@ -20,18 +20,25 @@ fn pairs(path: &[u8], at: usize, first: u8, second: u8) -> u8x16
     )
 }
 
-// Whether two such bytes stand side by side. The bytes are read one by one.
-fn has_pair_in_few(path: &[u8], first: u8, second: u8) -> bool
-    ensures { result ≡ has_pair first second path.now }
+// Where two such bytes stand side by side first, from an index on, or the length. The bytes are
+// read one by one.
+fn pair_near(path: &[u8], from: usize, first: u8, second: u8) -> usize
+    requires { from ≤ length path.now }
+    ensures within { result ≤ length path.now }
+    ensures none_before { (k : ℕ) → from ≤ k → k < result → k + 1 < length path.now
+        → is_pair first second path.now k ≡ false }
+    ensures found { result < length path.now
+        → (result + 1 < length path.now) × (is_pair first second path.now result ≡ true) }
 {
-    let mut at = 1;
-    while at < path.len() {
-        if path[at] == second && path[at - 1] == first {
-            return true;
+    let len = path.len();
+    let mut at = from;
+    while 2 <= len - at {
+        if path[at + 1] == second && path[at] == first {
+            return at;
         }
         at += 1;
     }
-    false
+    len
 }
 
 // Whether two such bytes stand side by side in 9 to 16. A lane of the ends of the path without its
@@ -49,12 +56,13 @@ fn has_pair_in_ends(path: &[u8], first: u8, second: u8) -> bool
 
 // Whether two such bytes stand side by side.
 #[inline(always)]
+#[tactic(auto, using(crate::proofs::PairLemmas::near_found))]
 fn has_pair(path: &[u8], first: u8, second: u8) -> bool
     ensures { result ≡ has_pair first second path.now }
 {
     let len = path.len();
     if len < 9 {
-        return has_pair_in_few(path, first, second);
+        return pair_near(path, 0, first, second) < len;
     }
     if len < 17 {
         return has_pair_in_ends(path, first, second);
@@ -96,24 +104,6 @@ pub fn has_dot_pair(path: &[u8]) -> bool
     has_pair(path, b'.', b'.')
 }
 
-// Where the first `/.` stands from an index on, or the length. The bytes are read one by one.
-fn slash_dot_near(path: &[u8], from: usize) -> usize
-    requires { from ≤ length path.now }
-    ensures within { result ≤ length path.now }
-    ensures none_before { (k : ℕ) → from ≤ k → k < result → is_slash_dot path.now k ≡ false }
-    ensures found { result < length path.now → is_slash_dot path.now result ≡ true }
-{
-    let len = path.len();
-    let mut at = from;
-    while 2 <= len - at {
-        if path[at] == b'/' && path[at + 1] == b'.' {
-            return at;
-        }
-        at += 1;
-    }
-    len
-}
-
 /// Where the first `/.` stands, or the length. No segment that ends before it begins with a dot,
 /// unless it is the first.
 #[inline(always)]
@@ -131,5 +121,5 @@ pub fn position_of_slash_dot(path: &[u8]) -> usize
         }
         at += 16;
     }
-    slash_dot_near(path, at)
+    pair_near(path, at, b'/', b'.')
 }

@@ -88,18 +88,11 @@ fn is_scanned_ipv6(bytes: &[u8]) -> bool
     has_groups(bytes, 0, 7) || opens_with_gap(bytes)
 }
 
-// Whether the text is an IPv6 address, by its number.
-fn has_ipv6_value(text: &str) -> bool
-    ensures { result ≡ test.is_ipv6 text.now }
-{
-    ipv6_value(text).is_some()
-}
-
 /// Whether the text is an IPv6 address, without brackets.
 #[tactic(auto, using(crate::proofs::Ipv6ScanLemmas::scanned_address))]
 #[inline(always)]
 pub fn is_ipv6(text: &str) -> bool
     ensures { result ≡ test.is_ipv6 text.now }
 {
-    is_scanned_ipv6(text.as_bytes()) || has_ipv6_value(text)
+    is_scanned_ipv6(text.as_bytes()) || ipv6_value(text).is_some()
 }

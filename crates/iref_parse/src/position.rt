@@ -81,19 +81,6 @@ fn position_in_ends(bytes: &[u8], first: u8, second: u8) -> usize
     }
 }
 
-// The position of the first byte that is one of two, or the length, of at most 15 bytes.
-#[inline(always)]
-fn position_in_few(bytes: &[u8], first: u8, second: u8) -> usize
-    requires { length bytes.now < 16 }
-    ensures { result ≡ position_or_len (char_set_contains (first ∷ second ∷ [])) bytes.now }
-{
-    if bytes.len() < 8 {
-        position_near(bytes, first, second)
-    } else {
-        position_in_ends(bytes, first, second)
-    }
-}
-
 /// The position of the first byte that is one of two, or the length of the text.
 #[inline(always)]
 #[tactic(auto, using(crate::proofs::PositionLemmas::position_from_clear))]
@@ -101,17 +88,19 @@ pub fn position_of_either(bytes: &[u8], first: u8, second: u8) -> usize
     ensures { result ≡ position_or_len (char_set_contains (first ∷ second ∷ [])) bytes.now }
 {
     let len = bytes.len();
-    if len < 16 {
-        return position_in_few(bytes, first, second);
-    }
-    first_marked(
-        &EitherOf {
+    if 16 <= len {
+        let text = EitherOf {
             bytes,
             first,
             second,
-        },
-        len,
-    )
+        };
+        return first_marked(&text, len);
+    }
+    if len < 8 {
+        position_near(bytes, first, second)
+    } else {
+        position_in_ends(bytes, first, second)
+    }
 }
 
 /// The position of the first such byte, or the length of the text.

@@ -164,18 +164,6 @@ fn is_encoded_fragment<C: CharSet>(part: Option<&str>) -> bool
     position_of(text.as_bytes(), b'#') == text.len() || is_fragment::<C>(text)
 }
 
-// Whether each slice of an encoded text is in the rule of its component, as the path and the query
-// are.
-#[inline(always)]
-fn are_encoded_components<C: CharSet>(slices: ReferenceSlices<'_>) -> bool
-    requires { AreEncoded C.tests (texts_of slices) }
-    ensures { (result ≡ true) ↔ AreComponents C.tests (texts_of slices.entry) }
-{
-    slices.scheme.is_none_or(|scheme| is_scheme(scheme))
-        && is_encoded_authority::<C>(slices.authority)
-        && is_encoded_fragment::<C>(slices.fragment)
-}
-
 // Whether each slice is in the rule of its component. In a text that passed `is_encoded_text` only
 // the scheme, the authority and the fragment are left to test.
 #[inline(always)]
@@ -183,11 +171,12 @@ fn are_components<C: CharSet>(slices: ReferenceSlices<'_>, is_encoded: bool) -> 
     requires { is_encoded ≡ true → AreEncoded C.tests (texts_of slices) }
     ensures { (result ≡ true) ↔ AreComponents C.tests (texts_of slices.entry) }
 {
-    if is_encoded {
-        are_encoded_components::<C>(slices)
-    } else {
-        are_scanned_components::<C>(slices)
+    if !is_encoded {
+        return are_scanned_components::<C>(slices);
     }
+    slices.scheme.is_none_or(|scheme| is_scheme(scheme))
+        && is_encoded_authority::<C>(slices.authority)
+        && is_encoded_fragment::<C>(slices.fragment)
 }
 
 /// The components of a text that is a reference (RFC 3986 section 4.1).

@@ -158,14 +158,7 @@ impl ByteRule for PathBytes {
 fn allows_few<R: ByteRule>(bytes: &[u8]) -> bool
     ensures { result ≡ list_all R.allowed bytes.now }
 {
-    let mut rest = bytes;
-    while let Some((first, behind)) = rest.split_first() {
-        if !R::allows(*first) {
-            return false;
-        }
-        rest = behind;
-    }
-    true
+    bytes.iter().all(|byte| R::allows(*byte))
 }
 
 // Whether each byte of 8 to 15 is allowed.
