@@ -2,7 +2,7 @@
 use Rattle.std.specs.{Borrow.{Bor}, Prelude.{◌≡◌, Option}}
 use Rattle.iref_grammar.specs.{Characters.{uri_chars, iri_chars}, Rules.{Text}}
 use Rattle.iref_fault.specs.Faults.{FaultValue, fault_of_part, fault_of_authority, fault_of_reference, fault_of_uri}
-use Rattle.iref_fault.specs.Places as part
+use Rattle.iref_fault.specs.declared.part.PartRule.TheVariants as part
 use Rattle.iref.specs.{declared.errors.iri.IriError.{IriError}, declared.errors.uri.UriError.{UriError}}
 use Rattle.iref.specs.declared.errors.iri.IriError.TheVariants as iri
 use Rattle.iref.specs.declared.errors.uri.UriError.TheVariants as uri

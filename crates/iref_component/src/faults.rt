@@ -5,7 +5,7 @@ ghost use Rattle.iref_fault.specs.BytePlaces.{fault_value};
 ghost use Rattle.iref_fault.specs.Faults.{FaultValue, not_utf8, fault_of_part, fault_of_authority};
 ghost use Rattle.iref_fault.proofs.FaultLemmas.{no_fault_of_part, part_invalid, no_fault_of_authority};
 ghost use Rattle.iref_fault.proofs.FaultLemmas.{authority_invalid};
-ghost use Rattle.iref_fault.specs.Places as part;
+ghost use Rattle.iref_fault.specs.declared.part.PartRule.TheVariants as part;
 
 use crate::borrowed::BorrowedText;
 use crate::component_rules::{
@@ -14,6 +14,7 @@ use crate::component_rules::{
 };
 use crate::rule::Rule;
 use iref_fault::fault::{self, Fault, text_of_bytes};
+use iref_fault::part::PartRule;
 use iref_grammar::chars::CharSet;
 
 /// A rule whose refused texts have a fault, in one of the components of references (RFC 3986
@@ -70,7 +71,7 @@ impl HasFault for SchemeRule {
     ghost undecoded = { λ tests above bytes. part_invalid tests above part.Scheme bytes };
 
     fn fault<C: CharSet>(text: &str) -> Option<Fault> {
-        fault::fault_of_scheme(text)
+        fault::fault_of_part::<C>(PartRule::Scheme, text)
     }
 }
 
@@ -82,7 +83,7 @@ impl HasFault for UserInfoRule {
     ghost undecoded = { λ tests above bytes. part_invalid tests above part.UserInfo bytes };
 
     fn fault<C: CharSet>(text: &str) -> Option<Fault> {
-        fault::fault_of_user_info::<C>(text)
+        fault::fault_of_part::<C>(PartRule::UserInfo, text)
     }
 }
 
@@ -94,7 +95,7 @@ impl HasFault for HostRule {
     ghost undecoded = { λ tests above bytes. part_invalid tests above part.Host bytes };
 
     fn fault<C: CharSet>(text: &str) -> Option<Fault> {
-        fault::fault_of_host::<C>(text)
+        fault::fault_of_part::<C>(PartRule::Host, text)
     }
 }
 
@@ -106,7 +107,7 @@ impl HasFault for PortRule {
     ghost undecoded = { λ tests above bytes. part_invalid tests above part.Port bytes };
 
     fn fault<C: CharSet>(text: &str) -> Option<Fault> {
-        fault::fault_of_port(text)
+        fault::fault_of_part::<C>(PartRule::Port, text)
     }
 }
 
@@ -118,7 +119,7 @@ impl HasFault for PathRule {
     ghost undecoded = { λ tests above bytes. part_invalid tests above part.Path bytes };
 
     fn fault<C: CharSet>(text: &str) -> Option<Fault> {
-        fault::fault_of_path::<C>(text)
+        fault::fault_of_part::<C>(PartRule::Path, text)
     }
 }
 
@@ -130,7 +131,7 @@ impl HasFault for SegmentRule {
     ghost undecoded = { λ tests above bytes. part_invalid tests above part.Segment bytes };
 
     fn fault<C: CharSet>(text: &str) -> Option<Fault> {
-        fault::fault_of_segment::<C>(text)
+        fault::fault_of_part::<C>(PartRule::Segment, text)
     }
 }
 
@@ -142,7 +143,7 @@ impl HasFault for QueryRule {
     ghost undecoded = { λ tests above bytes. part_invalid tests above part.Query bytes };
 
     fn fault<C: CharSet>(text: &str) -> Option<Fault> {
-        fault::fault_of_query::<C>(text)
+        fault::fault_of_part::<C>(PartRule::Query, text)
     }
 }
 
@@ -154,7 +155,7 @@ impl HasFault for FragmentRule {
     ghost undecoded = { λ tests above bytes. part_invalid tests above part.Fragment bytes };
 
     fn fault<C: CharSet>(text: &str) -> Option<Fault> {
-        fault::fault_of_fragment::<C>(text)
+        fault::fault_of_part::<C>(PartRule::Fragment, text)
     }
 }
 

@@ -29,15 +29,6 @@ scan_more test owed left c text rest after u v l e h =
     ∙ located-suc (length text - length rest) c (chars after) (encoded_place_after test left (chars after))
     ∙ ap (λ n. located n (chars after) (encoded_place_after test left (chars after))) at
 
--- the character may not stand there
-pub scan_stops : (test : ℕ → Bool) (owed c start : ℕ) (rest after : Text) → chars rest ≡ c ∷ chars after → owed_after test owed c ≡ None
-    → located start (chars rest) (encoded_place_after test owed (chars rest)) ≡ Some start
-scan_stops test owed c start rest after e h =
-    let step : encoded_place_after test owed (c ∷ chars after) ≡ Some 0 =
-    ap (λ o. elim o as (λ _. Option ℕ) [ None ↦ Some 0 | Some m ↦ option_map suc (encoded_place_after test m (chars after)) ]) h in
-    let at : start + 0 ≡ start = omega arith in
-    ap (λ cs. located start cs (encoded_place_after test owed cs)) e ∙ ap (located start (c ∷ chars after)) step ∙ ap (λ n. Some n) at
-
 -- nothing is left of the text, and nothing is owed, or some digits are
 pub scan_ends : (test : ℕ → Bool) (owed : ℕ) (text rest : Text) → length rest ≡ 0 → owed ≡ 0 → located (length text - length rest) (chars rest) (encoded_place_after test owed (chars rest)) ≡ None
 scan_ends test owed text rest e h =

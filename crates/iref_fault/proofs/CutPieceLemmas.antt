@@ -10,10 +10,10 @@ use Rattle.iref_grammar.specs.Reference.{split_scheme, split_authority, scheme_o
 use Rattle.iref_grammar.proofs.CutLemmas.{cut, before-from_first, before-yes, before-no, before-part, first_lacks, rest_lacks}
 use Rattle.iref_grammar.proofs.{HostLemmas.{before_lacks}, SegmentRuleLemmas.{lacks-decoded}}
 use Rattle.iref_grammar.proofs.{SliceLemmas.{mark_boundary}, ReferenceCutLemmas.{split_scheme-joins}}
-use Rattle.iref_fault.specs.Places.{PartRule, Scheme, UserInfo, Host, Port, Path, BarePath, Query, Fragment}
+use Rattle.iref_fault.specs.Places.{PartRule, Scheme, UserInfo, Host, Port, Path, BarePath, Query, Fragment, is_bare}
 use Rattle.iref_fault.specs.Cut.{Piece, piece, piece_if, bracket_host, bracket_port, cut_host, cut_port, host_pieces, authority_pieces, authority_pieces_if, cut_scheme, pieces_of}
 use Rattle.iref_fault.proofs.CutSliceLemmas.{IsSlice, whole_slice, utf8_seam, utf8_before, first_slice, second_slice, slice_after, slice_before, slice_behind}
-use Rattle.iref_fault.proofs.PartPlaceLemmas.{HasShape, HasBareShape, has_plain_start, plain_rest, plain_more, colon_starts}
+use Rattle.iref_fault.proofs.PartPlaceLemmas.{HasShape, HasBareShape, any_shape, has_plain_start, plain_rest, plain_more, colon_starts}
 use Rattle.iref_fault.proofs.PieceLemmas.{IsSound, AreSound}
 
 -- ---- what the cuts join
@@ -179,14 +179,10 @@ module _ (set : CharTests) (above : AreAboveAscii set) (text : Text) where
   abbrev AreGood : List Piece → Type 0
   AreGood ps = AreSound set above text ps
 
-  -- of a rule whose texts have any shape
-  abbrev IsPlain : PartRule → Type 0
-  IsPlain rule = (t : Text) → HasShape rule t
+  one_sound : (rule : PartRule) (start : ℕ) (t : Text) → is_bare rule ≡ false → IsSlice text start t → AreGood (piece rule start t)
+  one_sound rule start t h s = (record { slice = s; shape = any_shape rule (chars t) h }, tt)
 
-  one_sound : (rule : PartRule) (start : ℕ) (t : Text) → IsPlain rule → IsSlice text start t → AreGood (piece rule start t)
-  one_sound rule start t h s = (record { slice = s; shape = h (chars t) }, tt)
-
-  if_sound : (rule : PartRule) (start : ℕ) (o : Option Text) → IsPlain rule → IfSome o (IsSlice text start) → AreGood (piece_if rule start o)
+  if_sound : (rule : PartRule) (start : ℕ) (o : Option Text) → is_bare rule ≡ false → IfSome o (IsSlice text start) → AreGood (piece_if rule start o)
   if_sound rule start None h s = tt
   if_sound rule start (Some t) h s = one_sound rule start t h s
 
@@ -194,8 +190,8 @@ module _ (set : CharTests) (above : AreAboveAscii set) (text : Text) where
   host_sound start t s =
       let host = cut_host t in
       all_append (IsSound set above text) (piece Host start host) (piece_if Port (start + length host + 1) (cut_port t))
-      (one_sound Host start host (λ x. tt) (slice_before text start t colon host (cut_port t) (lit< tt) s (host_joins t)))
-      (if_sound Port (start + length host + 1) (cut_port t) (λ x. tt) (slice_behind text start t colon host (cut_port t) (lit< tt) s (host_joins t)))
+      (one_sound Host start host refl (slice_before text start t colon host (cut_port t) (lit< tt) s (host_joins t)))
+      (if_sound Port (start + length host + 1) (cut_port t) refl (slice_behind text start t colon host (cut_port t) (lit< tt) s (host_joins t)))
 
   pub authority_sound : (start : ℕ) (t : Text) → IsSlice text start t → AreGood (authority_pieces start t)
   unfolding authority_pieces
@@ -210,7 +206,7 @@ module _ (set : CharTests) (above : AreAboveAscii set) (text : Text) where
       by (Some rest) e =
           let user = before (at_sign ∷ []) t in
           all_append (IsSound set above text) (piece UserInfo start user) (host_pieces (start + length user + 1) rest)
-          (one_sound UserInfo start user (λ x. tt) (slice_before text start t at_sign user (Some rest) (lit< tt) s e))
+          (one_sound UserInfo start user refl (slice_before text start t at_sign user (Some rest) (lit< tt) s e))
           (host_sound (start + length user + 1) rest (slice_behind text start t at_sign user (Some rest) (lit< tt) s e))
 
   authority_if_sound : (start : ℕ) (o : Option Text) → IfSome o (IsSlice text start) → AreGood (authority_pieces_if start o)
@@ -223,12 +219,12 @@ module _ (set : CharTests) (above : AreAboveAscii set) (text : Text) where
     where
       by : (x : Option Text) → (cut_scheme whole).0 ≡ x → (y : Option Text) → (split_authority (cut_scheme whole).1).0 ≡ y
           → HasShape (if is_some x || is_some y then Path else BarePath) (chars (split_authority (cut_scheme whole).1).1)
-      by (Some scheme) e y f = tt
-      by None e (Some authority) f = tt
+      by (Some scheme) e y f = any_shape Path (chars (split_authority (cut_scheme whole).1).1) refl
+      by None e (Some authority) f = any_shape Path (chars (split_authority (cut_scheme whole).1).1) refl
       by None e None f =
           let bare = bare_scheme whole e in
           let same : (split_authority (cut_scheme whole).1).1 ≡ whole = bare_authority (cut_scheme whole).1 f ∙ bare.0 in
-          as_characters (split_authority (cut_scheme whole).1).1 s.utf8 (subst HasByteShape (sym same) bare.1)
+          λ b. as_characters (split_authority (cut_scheme whole).1).1 s.utf8 (subst HasByteShape (sym same) bare.1)
 
   -- what stands before the query
   front_sound : (whole : Text) → IsSlice text 0 whole → let front = cut_scheme whole in let middle = split_authority front.1 in let scheme_len = length (part_then (colon ∷ []) front.0) in
@@ -242,7 +238,7 @@ module _ (set : CharTests) (above : AreAboveAscii set) (text : Text) where
       let second = authority_slices text scheme_len front.1 first.1 in
       all_append (IsSound set above text) (piece_if Scheme 0 front.0 ++ authority_pieces_if (scheme_len + 2) middle.0) _
       (all_append (IsSound set above text) (piece_if Scheme 0 front.0) (authority_pieces_if (scheme_len + 2) middle.0)
-      (if_sound Scheme 0 front.0 (λ x. tt) first.0)
+      (if_sound Scheme 0 front.0 refl first.0)
       (authority_if_sound (scheme_len + 2) middle.0 second.0))
       (path_sound whole (scheme_len + length (then_part (codes "//") middle.0)) second.1)
 
@@ -260,5 +256,5 @@ module _ (set : CharTests) (above : AreAboveAscii set) (text : Text) where
       all_append (IsSound set above text) _ (piece_if Fragment (length body + 1) fragment)
       (all_append (IsSound set above text) _ (piece_if Query (length (hierarchy text) + 1) query)
       (front_sound (hierarchy text) second)
-      (if_sound Query (length (hierarchy text) + 1) query (λ x. tt) in_query))
-      (if_sound Fragment (length body + 1) fragment (λ x. tt) in_fragment)
+      (if_sound Query (length (hierarchy text) + 1) query refl in_query))
+      (if_sound Fragment (length body + 1) fragment refl in_fragment)

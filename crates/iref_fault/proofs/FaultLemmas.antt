@@ -7,11 +7,11 @@ use Rattle.std.specs.Str.{IsUtf8, IsValidUpTo, is_utf8}
 use Rattle.std.specs.{Str.Lossy.{utf8_valid_len, valid_len_up_to}, List.{AllByRecursion}, Char.{encode_utf8}}
 use Rattle.iref_grammar.specs.Characters.{CharTests, AreAboveAscii, uri_chars, uri_above_ascii}
 use Rattle.iref_grammar.specs.{Rules.{Text, Rule, InUtf8}, Grammar.{IsAuthority, IsUri, IsUriReference}}
-use Rattle.iref_fault.specs.Places.{PartRule, Scheme, UserInfo, Host, Port, Path, BarePath, Segment, Query, Fragment, rule_of, is_bare, IsPlaceIn, bytes_before}
+use Rattle.iref_fault.specs.Places.{PartRule, rule_of, is_bare, IsPlaceIn, bytes_before}
 use Rattle.iref_fault.specs.Cut.{Piece, piece, authority_pieces, has_cut_scheme, pieces_of}
 use Rattle.iref_fault.specs.Faults.{FaultValue, fault_at, first_char, first_fault, fault_of_pieces, fault_of_part, fault_of_authority, fault_of_reference, fault_of_uri, not_utf8, no_scheme}
 use Rattle.iref_fault.specs.FirstFault.{AreInRules, IsFirstFault, IsPartFault}
-use Rattle.iref_fault.proofs.{PartPlaceLemmas.{HasShape}, CutSliceLemmas.{IsSlice, whole_slice, slice_boundary}}
+use Rattle.iref_fault.proofs.{PartPlaceLemmas.{any_shape}, CutSliceLemmas.{IsSlice, whole_slice, slice_boundary}}
 use Rattle.iref_fault.proofs.CutReadLemmas.{authority_cut, reference_cut}
 use Rattle.iref_fault.proofs.PieceLemmas.{IsSound, AreSound, first_fault_is, no_fault_is}
 use Rattle.iref_fault.proofs.CutPieceLemmas.{pieces_sound, authority_sound}
@@ -147,17 +147,6 @@ module _ (set : CharTests) (above : AreAboveAscii set) where
       by false u = subst (IsWithin text) (same_Some (not_utf8 text) f (sym (invalid_text text ps u) ∙ e)) (invalid_within text)
 
   -- ---- single texts
-
-  any_shape : (rule : PartRule) (text : Text) → is_bare rule ≡ false → HasShape rule text
-  any_shape Scheme text h = tt
-  any_shape UserInfo text h = tt
-  any_shape Host text h = tt
-  any_shape Port text h = tt
-  any_shape Path text h = tt
-  any_shape BarePath text h = absurd (true≢false h)
-  any_shape Segment text h = tt
-  any_shape Query text h = tt
-  any_shape Fragment text h = tt
 
   part_sound : (rule : PartRule) (text : Text) → is_bare rule ≡ false → IsUtf8 text → AreSound set above text (piece rule 0 text)
   part_sound rule text h u = (record { slice = whole_slice text u; shape = any_shape rule (chars text) h }, tt)

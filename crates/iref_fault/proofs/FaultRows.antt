@@ -11,7 +11,7 @@ use Rattle.iref_fault.specs.declared.component.Component.TheVariants.{Scheme, Us
 use Rattle.iref_fault.specs.{declared.component.Component.{Component}, Places.{PartRule, component_of, place_in}}
 use Rattle.iref_fault.specs.{Cut.{Piece, authority_pieces, pieces_of}, Printed.{fault_text}}
 use Rattle.iref_fault.specs.Faults.{FaultValue, fault_of_piece, fault_of_part, fault_of_authority, fault_of_reference, fault_of_uri}
-use Rattle.iref_fault.specs.Places as rule
+use Rattle.iref_fault.specs.declared.part.PartRule.TheVariants as rule
 
 -- the bytes of a quoted text
 abbrev utf8 : String → Text

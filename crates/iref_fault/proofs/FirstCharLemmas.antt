@@ -59,3 +59,5 @@ bare_path_colon set text u h = ap (λ b. located 0 (chars text) (if b then Some 
 
 pub bare_path_other : (set : CharTests) (text : Text) → IsUtf8 text → begins_with (colon ∷ []) text ≡ false → byte_place (bare_path_place set) text ≡ byte_place (path_place set) text
 bare_path_other set text u h = ap (λ b. located 0 (chars text) (if b then Some 0 else path_place set (chars text))) (begins_in_chars colon text (lit< tt) u ∙ h)
+
+pub ruleset by_first_char = (host_named, host_in_brackets, bare_path_colon, bare_path_other)

@@ -1,25 +1,14 @@
 -- Places of pieces in bytes: of one piece, of two lists of pieces, and how far a place is.
-use Rattle.std.proofs.Common.{◌≡◌, ℕ, ◌+◌, ◌<◌, Bool, true, false, List, [], ◌∷◌, ◌++◌, length, refl, ap, ◌∙◌, arith, chars, IsUtf8, Option, Some, None, IfSome}
+use Rattle.std.proofs.Common.{◌≡◌, ℕ, ◌+◌, ◌<◌, List, [], ◌∷◌, ◌++◌, length, refl, ap, ◌∙◌, arith, chars, IsUtf8, Option, Some, None, IfSome}
 use Rattle.std.specs.Option.{option_or}
 use Rattle.iref_grammar.specs.{Characters.{CharTests}, Rules.{Text}}
-use Rattle.iref_fault.specs.{Places.{PartRule, component_of, place_in}, declared.component.Component.TheVariants.{Path}}
-use Rattle.iref_fault.specs.{Cut.{Piece, piece}, CutSteps.{path_rule}}
-use Rattle.iref_fault.specs.BytePlaces.{located, byte_place, placed, place_of_piece, first_place}
+use Rattle.iref_fault.specs.Cut.{Piece}
+use Rattle.iref_fault.specs.BytePlaces.{located, byte_place, place_of_piece, first_place}
 use Rattle.iref_fault.proofs.CutSliceLemmas.{whole_slice, slice_boundary}
-
-or-none : {A : Type 0} (o : Option A) → o ≡ option_or o None
-or-none None = refl
-or-none (Some x) = refl
 
 or-assoc : {A : Type 0} (x y z : Option A) → option_or x (option_or y z) ≡ option_or (option_or x y) z
 or-assoc None y z = refl
 or-assoc (Some a) y z = refl
-
--- of one piece, where this is the place of its rule
-pub one_piece : (set : CharTests) (rule : PartRule) (start : ℕ) (t : Text) (place : Text → Option ℕ) → place (chars t) ≡ place_in set rule (chars t)
-    → placed (component_of rule) start (byte_place place t) ≡ first_place set (piece rule start t)
-one_piece set rule start t place h =
-    ap (λ p. placed (component_of rule) start (located 0 (chars t) p)) h ∙ or-none (place_of_piece set (record { rule = rule; start = start; text = t }))
 
 pub first_place-append : (set : CharTests) (ps qs : List Piece) → first_place set (ps ++ qs) ≡ option_or (first_place set ps) (first_place set qs)
 first_place-append set [] qs = refl
@@ -33,7 +22,3 @@ place_within place t start bound u h = by (place (chars t))
     by : (p : Option ℕ) → IfSome (located 0 (chars t) p) (λ n. start + n < bound)
     by None = tt
     by (Some n) = let b = (slice_boundary t 0 t n (whole_slice t u)).0 in omega (arith, b)
-
-pub path_component : (follows : Bool) → Path ≡ component_of (path_rule follows)
-path_component true = refl
-path_component false = refl

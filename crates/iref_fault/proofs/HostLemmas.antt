@@ -30,9 +30,6 @@ pub host_within : (text : Text) → length (cut_host text) ≤ length text
 host_within text = omega (arith, length-append (cut_host text) (then_part (colon ∷ []) (cut_port text)), ap length (host_joins text))
 
 -- of a text that is cut at a mark
-pub cut_within : (mark : ℕ) (text : Text) → length (before (mark ∷ []) text) ≤ length text
-cut_within mark text = omega (arith, length-append (before (mark ∷ []) text) (then_part (mark ∷ []) (after mark text)), ap length (cut mark text))
-
 pub cut_len : (mark : ℕ) (text rest : Text) → Some rest ≡ after mark text → length (before (mark ∷ []) text) + 1 + length rest ≡ length text
 cut_len mark text rest e =
     omega (arith, length-append (before (mark ∷ []) text) (mark ∷ rest), ap length (ap (λ o. before (mark ∷ []) text ++ then_part (mark ∷ []) o) e ∙ cut mark text))

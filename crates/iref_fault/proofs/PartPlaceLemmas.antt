@@ -13,7 +13,7 @@ use Rattle.iref_grammar.proofs.PathTextLemmas.{PathPiece, to_path_piece, from_pa
 use Rattle.iref_grammar.proofs.HostRuleLemmas.{Decides-is_ip_literal, ipv4_reg_name}
 use Rattle.iref_grammar.proofs.ComponentLackLemmas.{reg_name_refuses}
 use Rattle.iref_grammar.proofs.CutLemmas.{before-no, before-yes, first_lacks, rest_lacks}
-use Rattle.iref_fault.specs.Places.{PartRule, Scheme, UserInfo, Host, Port, Path, BarePath, Segment, Query, Fragment, rule_of, is_bracketed, IsPlaceIn, place_in, scheme_place, host_place, path_place, bare_path_place, ones_place, encoded_place}
+use Rattle.iref_fault.specs.Places.{PartRule, Scheme, UserInfo, Host, Port, Path, BarePath, Segment, Query, Fragment, is_bare, rule_of, is_bracketed, IsPlaceIn, place_in, scheme_place, host_place, path_place, bare_path_place, ones_place, encoded_place}
 use Rattle.iref_fault.proofs.EncodedPlaceLemmas.{IsTestPlace, PlaceTells, place_of_rule, encoded_tells, ones_tell}
 
 -- ---- the tests of characters
@@ -212,8 +212,10 @@ bare_tells set text (inl h) =
 
 -- the shape that the cut gives a path without a scheme
 abbrev pub HasShape : PartRule → Text → Type 0
-HasShape BarePath text = HasBareShape text
-HasShape rule text = Unit {0}
+HasShape rule text = is_bare rule ≡ true → HasBareShape text
+
+pub any_shape : (rule : PartRule) (text : Text) → is_bare rule ≡ false → HasShape rule text
+any_shape rule text h b = absurd (true≢false (sym b ∙ h))
 
 module _ (set : CharTests) (above : AreAboveAscii set) where
   Decides-is_path_text : (text : Text) → Decides (is_path_text set text) (IsPath set text)
@@ -261,7 +263,7 @@ module _ (set : CharTests) (above : AreAboveAscii set) where
   place_tells Host text s = from_host text (host_place set text) (host_tells set above text)
   place_tells Port text s = from_test Port text refl _ (ones_tell is_ascii_digit text)
   place_tells Path text s = from_test Path text refl _ (encoded_tells (λ c. is_path_char set c || c == slash) 0 text)
-  place_tells BarePath text s = from_test BarePath text refl (bare_path_place set text) (bare_tells set text s)
+  place_tells BarePath text s = from_test BarePath text refl (bare_path_place set text) (bare_tells set text (s refl))
   place_tells Segment text s = from_test Segment text refl _ (encoded_tells (is_path_char set) 0 text)
   place_tells Query text s = from_test Query text refl _ (encoded_tells (is_query_char set) 0 text)
   place_tells Fragment text s = from_test Fragment text refl _ (encoded_tells (is_fragment_char set) 0 text)

@@ -7,18 +7,8 @@ use Rattle.iref_grammar.specs.Grammar.{IsScheme, IsUserInfo, IsHost, IsPort, IsP
 use Rattle.iref_grammar.specs.{Texts.{before, begins_with, lacks}, Tests.{owed_after, is_ip_literal}}
 use Rattle.iref_fault.specs.declared.component.Component.{Component}
 use Rattle.iref_fault.specs.declared.component.Component.TheVariants as component
-
--- the rules of single texts; a bare path has neither a scheme nor an authority before it
-pub data PartRule : Type 0 where
-  Scheme : PartRule
-  UserInfo : PartRule
-  Host : PartRule
-  Port : PartRule
-  Path : PartRule
-  BarePath : PartRule
-  Segment : PartRule
-  Query : PartRule
-  Fragment : PartRule
+pub use Rattle.iref_fault.specs.declared.part.PartRule.{PartRule}
+pub use Rattle.iref_fault.specs.declared.part.PartRule.TheVariants.{Scheme, UserInfo, Host, Port, Path, BarePath, Segment, Query, Fragment}
 
 abbrev pub is_bare : PartRule → Bool
 is_bare BarePath = true

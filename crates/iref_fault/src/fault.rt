@@ -1,20 +1,15 @@
 //! Where a text is wrong, and why.
 #![tactic(auto, using(crate::proofs::FaultValueLemmas::part_value))]
 
-ghost use Rattle.std.specs.Prelude.{◌≡◌, option_map, true, false, chars, IfSome, MatchResult};
+ghost use Rattle.std.specs.Prelude.{◌≡◌, option_map, false, chars, IfSome, MatchResult};
 ghost use Rattle.std.specs.Str.{IsCharBoundary, is_utf8};
-ghost use Rattle.iref_grammar.specs.Characters.{CharTests};
 ghost use Rattle.iref_fault.specs.BytePlaces.{fault_value, invalid_component, value_at};
 ghost use Rattle.iref_fault.specs.{Faults.{fault_of_part, first_char, not_utf8}, Printed.{component_name, fault_text}};
 ghost use Rattle.iref_fault.specs.Faults as spec;
-ghost use Rattle.iref_fault.specs.Places as rule;
 
 use crate::component::{Cause, Component};
-use crate::pieces::{
-    Place, has_scheme, place_in_authority, place_in_fragment, place_in_host, place_in_path,
-    place_in_port, place_in_query, place_in_reference, place_in_scheme, place_in_segment,
-    place_in_user_info,
-};
+use crate::part::PartRule;
+use crate::pieces::{Place, has_scheme, place_in_authority, place_in_part, place_in_reference};
 use iref_grammar::chars::CharSet;
 use iref_parse::scan::split_first_char;
 use std::{fmt, str};
@@ -120,63 +115,12 @@ fn fault_at(text: &str, place: Option<Place>) -> Option<Fault>
     })
 }
 
-/// The fault of a scheme (RFC 3986 section 3.1), if it is wrong: of `a b`, at 1.
-pub fn fault_of_scheme(text: &str) -> Option<Fault>
-    ensures { (set : CharTests) → option_map fault_value result
-        ≡ fault_of_part set rule.Scheme text.now }
+/// The fault of a single text, if it is outside the rule: of the port `8x0`, at 1. Of a segment the
+/// component is the path.
+pub fn fault_of_part<C: CharSet>(rule: PartRule, text: &str) -> Option<Fault>
+    ensures { option_map fault_value result ≡ fault_of_part C.tests rule text.now }
 {
-    fault_at(text, place_in_scheme(Some(text)))
-}
-
-/// The fault of a user info (RFC 3986 section 3.2.1), if it is wrong: of `a@b`, at 1.
-pub fn fault_of_user_info<C: CharSet>(text: &str) -> Option<Fault>
-    ensures { option_map fault_value result ≡ fault_of_part C.tests rule.UserInfo text.now }
-{
-    fault_at(text, place_in_user_info::<C>(0, text))
-}
-
-/// The fault of a host (RFC 3986 section 3.2.2), if it is wrong: of `a b`, at 1, and of `[::1`, at 0.
-pub fn fault_of_host<C: CharSet>(text: &str) -> Option<Fault>
-    ensures { option_map fault_value result ≡ fault_of_part C.tests rule.Host text.now }
-{
-    fault_at(text, place_in_host::<C>(0, text))
-}
-
-/// The fault of a port (RFC 3986 section 3.2.3), if it is wrong: of `8x0`, at 1.
-pub fn fault_of_port(text: &str) -> Option<Fault>
-    ensures { (set : CharTests) → option_map fault_value result
-        ≡ fault_of_part set rule.Port text.now }
-{
-    fault_at(text, place_in_port(0, Some(text)))
-}
-
-/// The fault of a path (RFC 3986 section 3.3), if it is wrong: of `a%4`, at 3, where it ends.
-pub fn fault_of_path<C: CharSet>(text: &str) -> Option<Fault>
-    ensures { option_map fault_value result ≡ fault_of_part C.tests rule.Path text.now }
-{
-    fault_at(text, place_in_path::<C>(0, text, true))
-}
-
-/// The fault of a segment (RFC 3986 section 3.3), if it is wrong: of `a/b`, at 1. The component is
-/// the path.
-pub fn fault_of_segment<C: CharSet>(text: &str) -> Option<Fault>
-    ensures { option_map fault_value result ≡ fault_of_part C.tests rule.Segment text.now }
-{
-    fault_at(text, place_in_segment::<C>(text))
-}
-
-/// The fault of a query (RFC 3986 section 3.4), if it is wrong: of `a#b`, at 1.
-pub fn fault_of_query<C: CharSet>(text: &str) -> Option<Fault>
-    ensures { option_map fault_value result ≡ fault_of_part C.tests rule.Query text.now }
-{
-    fault_at(text, place_in_query::<C>(0, Some(text)))
-}
-
-/// The fault of a fragment (RFC 3986 section 3.5), if it is wrong: of `a#b`, at 1.
-pub fn fault_of_fragment<C: CharSet>(text: &str) -> Option<Fault>
-    ensures { option_map fault_value result ≡ fault_of_part C.tests rule.Fragment text.now }
-{
-    fault_at(text, place_in_fragment::<C>(0, Some(text)))
+    fault_at(text, place_in_part::<C>(rule, 0, text))
 }
 
 /// The fault of an authority (RFC 3986 section 3.2), if it is wrong: of `u@h:8x`, in the port, at 5.

@@ -7,6 +7,7 @@ pub mod edit;
 pub mod fault;
 pub mod fault_laws;
 pub mod invalid;
+pub mod part;
 mod pieces;
 pub mod port;
 mod scan;

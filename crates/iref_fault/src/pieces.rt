@@ -1,16 +1,16 @@
 //! The cut of any text into components and parts (RFC 3986 appendix B), and the first of them that
 //! is outside its rule.
 ghost use Rattle.std.specs.{Prelude.{◌≡◌, ◌+◌, ◌<◌, ◌^◌, length, IfSome, is_some, ◌||◌}, Option.{option_copied}};
-ghost use Rattle.iref_grammar.specs.{Characters.{CharTests}, Grammar.{right_bracket}, Reference.{hierarchy}};
+ghost use Rattle.iref_grammar.specs.{Grammar.{right_bracket}, Reference.{hierarchy}};
 ghost use Rattle.iref_grammar.specs.Texts.{after};
 ghost use Rattle.iref_fault.specs.Cut as spec;
 ghost use Rattle.iref_fault.specs.Cut.{piece, piece_if, authority_pieces, authority_pieces_if};
 ghost use Rattle.iref_fault.specs.Cut.{host_pieces, pieces_of, has_cut_scheme};
 ghost use Rattle.iref_fault.specs.CutSteps.{after_last, hierarchy_pieces, path_rule, pieces_after_scheme};
-ghost use Rattle.iref_fault.specs.BytePlaces.{byte_place, first_place, placed};
-ghost use Rattle.iref_fault.specs.Places as rule;
+ghost use Rattle.iref_fault.specs.BytePlaces.{first_place, placed};
 
 use crate::component::Component;
+use crate::part::PartRule;
 use crate::scan;
 use iref_grammar::chars::CharSet;
 use iref_parse::cut::cut;
@@ -34,70 +34,21 @@ fn placed(component: Component, start: usize, at: Option<usize>) -> Option<Place
     Some(Place { component, at })
 }
 
-// Of a scheme.
-pub(crate) fn place_in_scheme(part: Option<&str>) -> Option<Place>
-    ensures { (set : CharTests) → result
-        ≡ first_place set (piece_if rule.Scheme 0 (option_copied part.entry)) }
-{
-    placed(Component::Scheme, 0, scan::scheme_place(part?))
-}
-
-// Of a port.
-#[tactic(auto, unfolding(crate::specs::Places::place_in))]
-pub(crate) fn place_in_port(start: usize, part: Option<&str>) -> Option<Place>
-    requires { IfSome (option_copied part) (λ t. start + length t < 2 ^ 64) }
-    ensures { (set : CharTests) → result
-        ≡ first_place set (piece_if rule.Port start (option_copied part.entry)) }
-{
-    placed(Component::Port, start, scan::port_place(part?))
-}
-
-// Where a path is wrong: where nothing stands before it, it does not begin with `:`.
-#[tactic(auto, unfolding(crate::specs::Places::place_in))]
-fn path_place<C: CharSet>(path: &str, follows: bool) -> Option<usize>
-    ensures { result ≡ byte_place (rule.place_in C.tests (path_rule follows)) path.now }
-{
-    if follows {
-        scan::path_place::<C>(path)
-    } else {
-        scan::bare_path_place::<C>(path)
-    }
-}
-
-// Of a path.
+// Of a text that begins at `start`.
 #[tactic(auto, using(crate::proofs::FirstPlaceLemmas::place_within))]
-pub(crate) fn place_in_path<C: CharSet>(start: usize, path: &str, follows: bool) -> Option<Place>
-    requires { start + length path.now < 2 ^ 64 }
-    ensures { result ≡ first_place C.tests (piece (path_rule follows) start path.now) }
+pub(crate) fn place_in_part<C: CharSet>(rule: PartRule, start: usize, text: &str) -> Option<Place>
+    requires { start + length text.now < 2 ^ 64 }
+    ensures { result ≡ first_place C.tests (piece rule start text.now) }
 {
-    placed(Component::Path, start, path_place::<C>(path, follows))
+    placed(rule.component(), start, scan::place_in::<C>(rule, text))
 }
 
-// Of a segment alone.
-#[tactic(auto, unfolding(crate::specs::Places::place_in))]
-pub(crate) fn place_in_segment<C: CharSet>(text: &str) -> Option<Place>
-    ensures { result ≡ first_place C.tests (piece rule.Segment 0 text.now) }
-{
-    placed(Component::Path, 0, scan::segment_place::<C>(text))
-}
-
-// Of a query.
-#[tactic(auto, unfolding(crate::specs::Places::place_in))]
-pub(crate) fn place_in_query<C: CharSet>(start: usize, part: Option<&str>) -> Option<Place>
+// Of a text, if there is one.
+fn place_if<C: CharSet>(rule: PartRule, start: usize, part: Option<&str>) -> Option<Place>
     requires { IfSome (option_copied part) (λ t. start + length t < 2 ^ 64) }
-    ensures { result ≡ first_place C.tests (piece_if rule.Query start (option_copied part.entry)) }
+    ensures { result ≡ first_place C.tests (piece_if rule start (option_copied part.entry)) }
 {
-    placed(Component::Query, start, scan::query_place::<C>(part?))
-}
-
-// Of a fragment.
-#[tactic(auto, unfolding(crate::specs::Places::place_in))]
-pub(crate) fn place_in_fragment<C: CharSet>(start: usize, part: Option<&str>) -> Option<Place>
-    requires { IfSome (option_copied part) (λ t. start + length t < 2 ^ 64) }
-    ensures { result
-        ≡ first_place C.tests (piece_if rule.Fragment start (option_copied part.entry)) }
-{
-    placed(Component::Fragment, start, scan::fragment_place::<C>(part?))
+    place_in_part::<C>(rule, start, part?)
 }
 
 // What follows the first `]`.
@@ -154,24 +105,6 @@ fn host_before<'a>(text: &'a str, port: Option<&str>) -> &'a str
     }
 }
 
-// Of a user info.
-#[tactic(auto, unfolding(crate::specs::Places::place_in))]
-pub(crate) fn place_in_user_info<C: CharSet>(start: usize, part: &str) -> Option<Place>
-    requires { start + length part.now < 2 ^ 64 }
-    ensures { result ≡ first_place C.tests (piece rule.UserInfo start part.now) }
-{
-    placed(Component::UserInfo, start, scan::user_info_place::<C>(part))
-}
-
-// Of a host.
-#[tactic(auto, unfolding(crate::specs::Places::place_in))]
-pub(crate) fn place_in_host<C: CharSet>(start: usize, part: &str) -> Option<Place>
-    requires { start + length part.now < 2 ^ 64 }
-    ensures { result ≡ first_place C.tests (piece rule.Host start part.now) }
-{
-    placed(Component::Host, start, scan::host_place::<C>(part))
-}
-
 // Of a host and a port.
 fn place_in_host_and_port<C: CharSet>(start: usize, text: &str) -> Option<Place>
     requires { start + length text.now < 2 ^ 64 }
@@ -179,9 +112,9 @@ fn place_in_host_and_port<C: CharSet>(start: usize, text: &str) -> Option<Place>
 {
     let port = port_of(text);
     let host = host_before(text, port);
-    let place = place_in_host::<C>(start, host);
+    let place = place_in_part::<C>(PartRule::Host, start, host);
     match port {
-        Some(_) => place.or(place_in_port(start + host.len() + 1, port)),
+        Some(_) => place.or(place_if::<C>(PartRule::Port, start + host.len() + 1, port)),
         None => place,
     }
 }
@@ -196,7 +129,7 @@ pub(crate) fn place_in_authority<C: CharSet>(start: usize, text: &str) -> Option
     match rest {
         Some(rest) => {
             let place = place_in_host_and_port::<C>(start + front.len() + 1, rest);
-            place_in_user_info::<C>(start, front).or(place)
+            place_in_part::<C>(PartRule::UserInfo, start, front).or(place)
         }
         None => place_in_host_and_port::<C>(start, text),
     }
@@ -222,12 +155,16 @@ fn cut_scheme(text: &str) -> (Option<&str>, &str)
     }
 }
 
-// Whether a scheme or an authority stands before a path.
-fn is_either(scheme: Option<&str>, authority: Option<&str>) -> bool
-    ensures { result
-        ≡ (is_some (option_copied scheme.entry) || is_some (option_copied authority.entry)) }
+// The rule of a path, behind a scheme and an authority, if there are any.
+fn path_rule(scheme: Option<&str>, authority: Option<&str>) -> PartRule
+    ensures { result ≡ path_rule
+        (is_some (option_copied scheme.entry) || is_some (option_copied authority.entry)) }
 {
-    scheme.is_some() || authority.is_some()
+    if scheme.is_some() || authority.is_some() {
+        PartRule::Path
+    } else {
+        PartRule::BarePath
+    }
 }
 
 // Of an authority and a path, which stand behind a scheme, if there is one.
@@ -243,7 +180,7 @@ fn place_after_scheme<C: CharSet>(start: usize, scheme: Option<&str>, text: &str
         None => None,
     };
     let path_start = start + (text.len() - path.len());
-    before.or(place_in_path::<C>(path_start, path, is_either(scheme, authority)))
+    before.or(place_in_part::<C>(path_rule(scheme, authority), path_start, path))
 }
 
 // Of what stands before the query and the fragment.
@@ -252,7 +189,7 @@ fn place_in_hierarchy<C: CharSet>(text: &str) -> Option<Place>
 {
     let (scheme, rest) = cut_scheme(text);
     let start = text.len() - rest.len();
-    place_in_scheme(scheme).or(place_after_scheme::<C>(start, scheme, rest))
+    place_if::<C>(PartRule::Scheme, 0, scheme).or(place_after_scheme::<C>(start, scheme, rest))
 }
 
 /// Of a reference (RFC 3986 section 4.1).
@@ -261,10 +198,12 @@ pub(crate) fn place_in_reference<C: CharSet>(text: &str) -> Option<Place>
 {
     let (front, fragment) = cut(text, '#');
     let (hierarchy, query) = cut(front, '?');
-    let query_place = place_in_query::<C>(hierarchy.len() + 1, query);
-    place_in_hierarchy::<C>(hierarchy)
-        .or(query_place)
-        .or(place_in_fragment::<C>(front.len() + 1, fragment))
+    let query_place = place_if::<C>(PartRule::Query, hierarchy.len() + 1, query);
+    place_in_hierarchy::<C>(hierarchy).or(query_place).or(place_if::<C>(
+        PartRule::Fragment,
+        front.len() + 1,
+        fragment,
+    ))
 }
 
 /// Whether the text has a scheme, right or wrong.

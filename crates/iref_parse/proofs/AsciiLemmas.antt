@@ -1,10 +1,11 @@
 -- The table of ASCII characters, checked entry by entry.
-use Rattle.std.proofs.Common.{◌≡◌, ℕ, zero, suc, ◌<◌, Bool, true, arith, ◌&&◌, ◌||◌, refl, ◌∙◌, ◌==◌, nat_le, codes}
+use Rattle.std.proofs.Common.{◌≡◌, ℕ, zero, suc, ◌<◌, ◌≤◌, Bool, true, arith, ◌&&◌, ◌||◌, refl, ◌∙◌, ◌==◌, nat_le, codes}
 use Rattle.std.proofs.{lemmas.Bool.{ltb-true}, lemmas.Bool.Decides.{Decides-below_and, nat_tests}}
 use Rattle.std.specs.List.{slice_index}
 use Rattle.std.specs.{Char.{is_ascii, is_ascii_alphanumeric, char_set_contains}, Cmp.{booleans_Decides}}
 use mathlib.Core.Bool.{beq}
 use Rattle.iref_parse.specs.declared.ascii.TheConstants.{FIRST_RULES}
+use Rattle.iref_parse.specs.CharRules.{allowed_by}
 use Rattle.iref_grammar.specs.Characters.{CharTests, AreAboveAscii, uri_chars}
 use Rattle.iref_grammar.specs.Grammar.{colon, at_sign, slash, question_mark, is_not_percent, is_sub_delim, is_reg_name_char, is_user_info_char, is_path_char, is_fragment_char, is_query_char}
 
@@ -30,6 +31,9 @@ by_uri_chars uri test n h same b low =
     let agree : is_ascii b ≡ true → test b ≡ uri b = λ e. same b (ltb-true b 128 e) in
     let both : allowed uri b ≡ allowed test b = grind (arith, nat_tests) in
     entry uri n h b low ∙ both
+
+pct_str_byte : (b : ℕ) → b < 256 → listed 6 b ≡ allowed is_not_percent b
+pct_str_byte = entry is_not_percent 6 refl
 
 module _ (set : CharTests) (above : AreAboveAscii set) where
   -- of ASCII, each set has the same characters
@@ -57,11 +61,11 @@ module _ (set : CharTests) (above : AreAboveAscii set) where
   unfolding is_reg_name_char
   reg_name_byte = by_uri_chars (is_reg_name_char uri_chars) (is_reg_name_char set) 0 refl reg_name_same
 
-  pub user_info_byte : (b : ℕ) → b < 256 → listed 1 b ≡ allowed (is_user_info_char set) b
+  user_info_byte : (b : ℕ) → b < 256 → listed 1 b ≡ allowed (is_user_info_char set) b
   unfolding is_user_info_char is_reg_name_char
   user_info_byte = by_uri_chars (is_user_info_char uri_chars) (is_user_info_char set) 1 refl user_info_same
 
-  pub segment_byte : (b : ℕ) → b < 256 → listed 2 b ≡ allowed (is_path_char set) b
+  segment_byte : (b : ℕ) → b < 256 → listed 2 b ≡ allowed (is_path_char set) b
   unfolding is_path_char is_user_info_char is_reg_name_char
   segment_byte = by_uri_chars (is_path_char uri_chars) (is_path_char set) 2 refl path_same
 
@@ -73,9 +77,18 @@ module _ (set : CharTests) (above : AreAboveAscii set) where
   unfolding is_fragment_char is_path_char is_user_info_char is_reg_name_char
   fragment_byte = by_uri_chars (is_fragment_char uri_chars) (is_fragment_char set) 4 refl fragment_same
 
-  pub query_byte : (b : ℕ) → b < 256 → listed 4 b ≡ allowed (is_query_char set) b
+  query_byte : (b : ℕ) → b < 256 → listed 5 b ≡ allowed (is_query_char set) b
   unfolding is_query_char is_fragment_char is_path_char is_user_info_char is_reg_name_char
-  query_byte = by_uri_chars (is_query_char uri_chars) (is_query_char set) 4 refl query_same
+  query_byte = by_uri_chars (is_query_char uri_chars) (is_query_char set) 5 refl query_same
 
-pub pct_str_byte : (b : ℕ) → b < 256 → listed 5 b ≡ allowed is_not_percent b
-pct_str_byte = entry is_not_percent 5 refl
+  -- the rule of each number
+  pub rule_byte : (rule b : ℕ) → rule ≤ 6 → b < 256 → listed rule b ≡ allowed (allowed_by set rule) b
+  unfolding allowed_by
+  rule_byte zero b l = reg_name_byte b
+  rule_byte (suc zero) b l = user_info_byte b
+  rule_byte (suc (suc zero)) b l = segment_byte b
+  rule_byte (suc (suc (suc zero))) b l = path_byte b
+  rule_byte (suc (suc (suc (suc zero)))) b l = fragment_byte b
+  rule_byte (suc (suc (suc (suc (suc zero))))) b l = query_byte b
+  rule_byte (suc (suc (suc (suc (suc (suc zero)))))) b l = pct_str_byte b
+  rule_byte (suc (suc (suc (suc (suc (suc (suc n))))))) b l = absurd (omega (arith, l))

@@ -11,6 +11,7 @@ pub use Rattle.iref_grammar.specs.Texts.{after, before, from_first, part_then, p
 pub use Rattle.iref_parse.specs.AuthoritySlices.{authority_of}
 pub use Rattle.iref_parse.specs.IpGroups.{counted, counted_after, filled_number}
 pub use Rattle.iref_parse.specs.ReferenceSlices.{texts_of, value_of}
+pub mod CharRules
 pub mod AuthoritySlices
 pub mod ReferenceSlices
 pub mod IpGroups

@@ -1,52 +1,17 @@
 //! Whether a text is in a rule of single characters and escapes.
 
-ghost use Rattle.std.specs.Prelude.{◌≡◌, ◌==◌, ◌&&◌, ◌||◌, ℕ, ◌+◌, ◌<◌, Bool, ◌∷◌, ◌≤◌, chars};
+ghost use Rattle.std.specs.Prelude.{◌≡◌, ◌&&◌, ℕ, ◌+◌, ◌<◌, Bool, ◌∷◌, ◌≤◌, chars};
 ghost use Rattle.std.specs.{Prelude.{length, slice_index, true, IfSome, MatchOption}, List.{list_all}};
 ghost use Rattle.std.specs.Char.{is_ascii, is_ascii_digit};
 ghost use Rattle.iref_grammar.specs.Grammar as grammar;
 ghost use Rattle.iref_grammar.specs.Tests as test;
-ghost use Rattle.iref_grammar.specs.{slash, is_not_percent, ScansTo};
+ghost use Rattle.iref_grammar.specs.{is_not_percent, ScansTo};
+ghost use Rattle.iref_parse.specs.{CharRules.{allowed_by}, declared.ascii.TheConstants.{PCT_STR}};
 
-use crate::ascii::{PATH, PCT_STR, QUERY, REG_NAME, SEGMENT, USER_INFO, first_rule};
+use crate::ascii::{FRAGMENT, PATH, PCT_STR, QUERY, REG_NAME, SEGMENT, USER_INFO, first_rule};
 use crate::encoded::is_encoded_text;
 use crate::position::position_of_either;
-use iref_grammar::chars::CharSet;
-use std::marker::PhantomData;
-
-/// The characters that stand for themselves in a rule of characters and escapes.
-pub trait CharRule {
-    /// What proofs see of them.
-    ghost allowed: { ℕ → Bool };
-
-    /// Whether the character is one of them.
-    fn allows(c: char) -> bool
-        ensures { result ≡ allowed c };
-
-    /// Whether the byte is one of them that is ASCII, and no `%`.
-    fn allows_byte(byte: u8) -> bool
-        ensures { result ≡ (is_ascii byte && (is_not_percent byte && allowed byte)) };
-}
-
-/// The characters of registered names (RFC 3986 section 3.2.2).
-pub struct RegNameChars<C: CharSet>(PhantomData<C>);
-
-/// The characters of user infos (RFC 3986 section 3.2.1).
-pub struct UserInfoChars<C: CharSet>(PhantomData<C>);
-
-/// The characters of segments (RFC 3986 section 3.3).
-pub struct SegmentChars<C: CharSet>(PhantomData<C>);
-
-/// The characters of paths (RFC 3986 section 3.3).
-pub struct PathChars<C: CharSet>(PhantomData<C>);
-
-/// The characters of queries (RFC 3986 section 3.4).
-pub struct QueryChars<C: CharSet>(PhantomData<C>);
-
-/// The characters of fragments (RFC 3986 section 3.5).
-pub struct FragmentChars<C: CharSet>(PhantomData<C>);
-
-/// The characters of percent-encoded texts: all but `%`.
-pub struct PctStrChars;
+use iref_grammar::chars::{CharSet, UriChars};
 
 // Whether the character is `unreserved` (RFC 3986 section 2.3).
 fn is_unreserved<C: CharSet>(c: char) -> bool
@@ -79,100 +44,61 @@ pub fn is_future_char(c: char) -> bool
     c.is_ascii_alphanumeric() || matches!(c, '-' | '.' | '_' | '~') || is_sub_delim(c) || c == ':'
 }
 
-#[tactic(auto, using(crate::proofs::AsciiLemmas::reg_name_byte))]
-impl<C: CharSet> CharRule for RegNameChars<C> {
-    ghost allowed = { grammar.is_reg_name_char C.tests };
+// Whether a registered name may hold the character (RFC 3986 section 3.2.2).
+#[tactic(auto, unfolding(iref_grammar::specs::Grammar::is_reg_name_char))]
+fn is_reg_name_char<C: CharSet>(c: char) -> bool
+    ensures { result ≡ grammar.is_reg_name_char C.tests c }
+{
+    is_unreserved::<C>(c) || is_sub_delim(c)
+}
 
-    #[tactic(auto, unfolding(iref_grammar::specs::Grammar::is_reg_name_char))]
-    fn allows(c: char) -> bool {
-        is_unreserved::<C>(c) || is_sub_delim(c)
-    }
+// Whether a user info may hold the character (RFC 3986 section 3.2.1).
+#[tactic(auto, unfolding(iref_grammar::specs::Grammar::is_user_info_char))]
+fn is_user_info_char<C: CharSet>(c: char) -> bool
+    ensures { result ≡ grammar.is_user_info_char C.tests c }
+{
+    is_reg_name_char::<C>(c) || c == ':'
+}
 
-    fn allows_byte(byte: u8) -> bool {
-        first_rule(byte) <= REG_NAME
+// Whether a segment may hold the character (RFC 3986 section 3.3).
+#[tactic(auto, unfolding(iref_grammar::specs::Grammar::is_path_char))]
+fn is_path_char<C: CharSet>(c: char) -> bool
+    ensures { result ≡ grammar.is_path_char C.tests c }
+{
+    is_user_info_char::<C>(c) || c == '@'
+}
+
+// Whether a fragment may hold the character (RFC 3986 section 3.5).
+#[tactic(auto, unfolding(iref_grammar::specs::Grammar::is_fragment_char))]
+fn is_fragment_char<C: CharSet>(c: char) -> bool
+    ensures { result ≡ grammar.is_fragment_char C.tests c }
+{
+    is_path_char::<C>(c) || c == '/' || c == '?'
+}
+
+/// Whether the character stands for itself in the rule of this number.
+#[tactic(auto, unfolding(crate::specs::CharRules::allowed_by, iref_grammar::specs::Grammar::is_query_char))]
+pub fn allows<C: CharSet, const RULE: u8>(c: char) -> bool
+    ensures { result ≡ allowed_by C.tests RULE c }
+{
+    match RULE {
+        REG_NAME => is_reg_name_char::<C>(c),
+        USER_INFO => is_user_info_char::<C>(c),
+        SEGMENT => is_path_char::<C>(c),
+        PATH => is_path_char::<C>(c) || c == '/',
+        FRAGMENT => is_fragment_char::<C>(c),
+        QUERY => is_fragment_char::<C>(c) || C::is_private(c),
+        _ => c != '%',
     }
 }
 
-#[tactic(auto, using(crate::proofs::AsciiLemmas::user_info_byte))]
-impl<C: CharSet> CharRule for UserInfoChars<C> {
-    ghost allowed = { grammar.is_user_info_char C.tests };
-
-    #[tactic(auto, unfolding(iref_grammar::specs::Grammar::is_user_info_char))]
-    fn allows(c: char) -> bool {
-        RegNameChars::<C>::allows(c) || c == ':'
-    }
-
-    fn allows_byte(byte: u8) -> bool {
-        first_rule(byte) <= USER_INFO
-    }
-}
-
-#[tactic(auto, using(crate::proofs::AsciiLemmas::segment_byte))]
-impl<C: CharSet> CharRule for SegmentChars<C> {
-    ghost allowed = { grammar.is_path_char C.tests };
-
-    #[tactic(auto, unfolding(iref_grammar::specs::Grammar::is_path_char))]
-    fn allows(c: char) -> bool {
-        UserInfoChars::<C>::allows(c) || c == '@'
-    }
-
-    fn allows_byte(byte: u8) -> bool {
-        first_rule(byte) <= SEGMENT
-    }
-}
-
-#[tactic(auto, using(crate::proofs::AsciiLemmas::path_byte))]
-impl<C: CharSet> CharRule for PathChars<C> {
-    ghost allowed = { λ c. grammar.is_path_char C.tests c || c == slash };
-
-    fn allows(c: char) -> bool {
-        SegmentChars::<C>::allows(c) || c == '/'
-    }
-
-    fn allows_byte(byte: u8) -> bool {
-        first_rule(byte) <= PATH
-    }
-}
-
-#[tactic(auto, using(crate::proofs::AsciiLemmas::query_byte))]
-impl<C: CharSet> CharRule for QueryChars<C> {
-    ghost allowed = { grammar.is_query_char C.tests };
-
-    #[tactic(auto, unfolding(iref_grammar::specs::Grammar::is_query_char))]
-    fn allows(c: char) -> bool {
-        FragmentChars::<C>::allows(c) || C::is_private(c)
-    }
-
-    fn allows_byte(byte: u8) -> bool {
-        first_rule(byte) <= QUERY
-    }
-}
-
-#[tactic(auto, using(crate::proofs::AsciiLemmas::fragment_byte))]
-impl<C: CharSet> CharRule for FragmentChars<C> {
-    ghost allowed = { grammar.is_fragment_char C.tests };
-
-    #[tactic(auto, unfolding(iref_grammar::specs::Grammar::is_fragment_char))]
-    fn allows(c: char) -> bool {
-        SegmentChars::<C>::allows(c) || c == '/' || c == '?'
-    }
-
-    fn allows_byte(byte: u8) -> bool {
-        first_rule(byte) <= QUERY
-    }
-}
-
-#[tactic(auto, using(crate::proofs::AsciiLemmas::pct_str_byte))]
-impl CharRule for PctStrChars {
-    ghost allowed = { is_not_percent };
-
-    fn allows(c: char) -> bool {
-        c != '%'
-    }
-
-    fn allows_byte(byte: u8) -> bool {
-        first_rule(byte) <= PCT_STR
-    }
+// Whether the byte is a character of the rule that is ASCII, and no `%`.
+#[tactic(auto, using(crate::proofs::AsciiLemmas::rule_byte))]
+fn allows_byte<C: CharSet, const RULE: u8>(byte: u8) -> bool
+    requires { RULE ≤ PCT_STR }
+    ensures { result ≡ (is_ascii byte && (is_not_percent byte && allowed_by C.tests RULE byte)) }
+{
+    first_rule(byte) <= RULE
 }
 
 /// The first character, and what follows it: of `é/` they are `é` and `/`.
@@ -199,14 +125,14 @@ fn after_digit(text: &str) -> Option<&str>
 }
 
 // What follows the first character or escape, if the rule has it.
-fn after_char_or_escape<R: CharRule>(text: &str) -> Option<&str>
+fn after_char_or_escape<C: CharSet, const RULE: u8>(text: &str) -> Option<&str>
     requires { 0 < length text.now }
-    ensures { ScansTo R.allowed 0 0 text.now result }
+    ensures { ScansTo (allowed_by C.tests RULE) 0 0 text.now result }
 {
     let (c, rest) = split_first_char(text)?;
     if c == '%' {
         after_digit(after_digit(rest)?)
-    } else if R::allows(c) {
+    } else if allows::<C, RULE>(c) {
         Some(rest)
     } else {
         None
@@ -225,57 +151,55 @@ fn after_ascii(text: &str) -> &str
 
 // What follows the first character, if it is one byte that the rule's table has.
 #[tactic(auto, using(std::proofs::lemmas::Grind::common_steps, crate::proofs::ScanLemmas::after_byte))]
-fn after_one<R: CharRule>(text: &str) -> Option<&str>
-    ensures { IfSome result (λ _. ScansTo R.allowed 0 0 text.now result) }
+fn after_one<C: CharSet, const RULE: u8>(text: &str) -> Option<&str>
+    requires { RULE ≤ PCT_STR }
+    ensures { IfSome result (λ _. ScansTo (allowed_by C.tests RULE) 0 0 text.now result) }
 {
-    if !text.is_empty() && R::allows_byte(text.as_bytes()[0]) {
+    if !text.is_empty() && allows_byte::<C, RULE>(text.as_bytes()[0]) {
         Some(after_ascii(text))
     } else {
         None
     }
 }
 
-// What follows the first two characters, if each is such a byte.
-fn after_two<R: CharRule>(text: &str) -> Option<&str>
-    ensures { IfSome result (λ _. ScansTo R.allowed 0 0 text.now result) }
-{
-    after_one::<R>(after_one::<R>(text)?)
-}
-
 // What follows the first four characters, if each is such a byte.
-fn after_four<R: CharRule>(text: &str) -> Option<&str>
-    ensures { IfSome result (λ _. ScansTo R.allowed 0 0 text.now result) }
+fn after_four<C: CharSet, const RULE: u8>(text: &str) -> Option<&str>
+    requires { RULE ≤ PCT_STR }
+    ensures { IfSome result (λ _. ScansTo (allowed_by C.tests RULE) 0 0 text.now result) }
 {
     if text.len() < 4 {
         return None;
     }
-    after_two::<R>(after_two::<R>(text)?)
+    let text = after_one::<C, RULE>(after_one::<C, RULE>(text)?)?;
+    after_one::<C, RULE>(after_one::<C, RULE>(text)?)
 }
 
 // What is left from the first character on that is no such byte.
-fn after_plain<R: CharRule>(text: &str) -> &str
-    ensures same { test.is_encoded R.allowed (chars result.now)
-        ≡ test.is_encoded R.allowed (chars text.now) }
+fn after_plain<C: CharSet, const RULE: u8>(text: &str) -> &str
+    requires { RULE ≤ PCT_STR }
+    ensures same { test.is_encoded (allowed_by C.tests RULE) (chars result.now)
+        ≡ test.is_encoded (allowed_by C.tests RULE) (chars text.now) }
     ensures no_longer { length result.now ≤ length text.now }
 {
     let mut rest = text;
-    while let Some(after) = after_four::<R>(rest) {
+    while let Some(after) = after_four::<C, RULE>(rest) {
         rest = after;
     }
-    while let Some(after) = after_one::<R>(rest) {
+    while let Some(after) = after_one::<C, RULE>(rest) {
         rest = after;
     }
     rest
 }
 
 // Whether the text is one of characters that the rule allows, and of escapes.
-fn is_encoded<R: CharRule>(text: &str) -> bool
-    ensures { result ≡ test.is_encoded R.allowed (chars text.now) }
+fn is_encoded<C: CharSet, const RULE: u8>(text: &str) -> bool
+    requires { RULE ≤ PCT_STR }
+    ensures { result ≡ test.is_encoded (allowed_by C.tests RULE) (chars text.now) }
 {
-    let mut rest = after_plain::<R>(text);
+    let mut rest = after_plain::<C, RULE>(text);
     while !rest.is_empty() {
-        match after_char_or_escape::<R>(rest) {
-            Some(after) => rest = after_plain::<R>(after),
+        match after_char_or_escape::<C, RULE>(rest) {
+            Some(after) => rest = after_plain::<C, RULE>(after),
             None => return false,
         }
     }
@@ -283,27 +207,27 @@ fn is_encoded<R: CharRule>(text: &str) -> bool
 }
 
 /// Whether the text is a user info (RFC 3986 section 3.2.1).
-#[tactic(auto, using(crate::proofs::ScanLemmas::utf8), unfolding(iref_grammar::specs::Tests::is_user_info))]
+#[tactic(auto, using(crate::proofs::ScanLemmas::utf8), unfolding(iref_grammar::specs::Tests::is_user_info, crate::specs::CharRules::allowed_by))]
 pub fn is_user_info<C: CharSet>(text: &str) -> bool
     ensures { result ≡ test.is_user_info C.tests text.now }
 {
-    is_encoded::<UserInfoChars<C>>(text)
+    is_encoded::<C, USER_INFO>(text)
 }
 
 /// Whether the text is a registered name (RFC 3986 section 3.2.2).
-#[tactic(auto, using(crate::proofs::ScanLemmas::utf8), unfolding(iref_grammar::specs::Tests::is_reg_name))]
+#[tactic(auto, using(crate::proofs::ScanLemmas::utf8), unfolding(iref_grammar::specs::Tests::is_reg_name, crate::specs::CharRules::allowed_by))]
 pub fn is_reg_name<C: CharSet>(text: &str) -> bool
     ensures { result ≡ test.is_reg_name C.tests text.now }
 {
-    is_encoded::<RegNameChars<C>>(text)
+    is_encoded::<C, REG_NAME>(text)
 }
 
 /// Whether the text is a segment (RFC 3986 section 3.3).
-#[tactic(auto, using(crate::proofs::ScanLemmas::utf8), unfolding(iref_grammar::specs::Tests::is_segment))]
+#[tactic(auto, using(crate::proofs::ScanLemmas::utf8), unfolding(iref_grammar::specs::Tests::is_segment, crate::specs::CharRules::allowed_by))]
 pub fn is_segment<C: CharSet>(text: &str) -> bool
     ensures { result ≡ test.is_segment C.tests text.now }
 {
-    is_encoded::<SegmentChars<C>>(text)
+    is_encoded::<C, SEGMENT>(text)
 }
 
 // Whether the text has 16 bytes at least, and is found to be a path by a scan of vectors.
@@ -319,35 +243,28 @@ fn is_encoded_path<C: CharSet>(text: &str) -> bool
     position_of_either(bytes, b'?', b'#') == bytes.len()
 }
 
-// Whether the text is a path, by a scan of each character.
-#[tactic(auto, using(crate::proofs::ScanLemmas::utf8), unfolding(iref_grammar::specs::Tests::is_path))]
-fn is_scanned_path<C: CharSet>(text: &str) -> bool
-    ensures { result ≡ test.is_path C.tests text.now }
-{
-    is_encoded::<PathChars<C>>(text)
-}
-
 /// Whether the text is a path: any text of the characters of segments and `/`.
+#[tactic(auto, using(crate::proofs::ScanLemmas::utf8), unfolding(iref_grammar::specs::Tests::is_path, crate::specs::CharRules::allowed_by))]
 pub fn is_path<C: CharSet>(text: &str) -> bool
     ensures { result ≡ test.is_path C.tests text.now }
 {
-    is_encoded_path::<C>(text) || is_scanned_path::<C>(text)
+    is_encoded_path::<C>(text) || is_encoded::<C, PATH>(text)
 }
 
 /// Whether the text is a query (RFC 3986 section 3.4).
-#[tactic(auto, using(crate::proofs::ScanLemmas::utf8), unfolding(iref_grammar::specs::Tests::is_query))]
+#[tactic(auto, using(crate::proofs::ScanLemmas::utf8), unfolding(iref_grammar::specs::Tests::is_query, crate::specs::CharRules::allowed_by))]
 pub fn is_query<C: CharSet>(text: &str) -> bool
     ensures { result ≡ test.is_query C.tests text.now }
 {
-    is_encoded::<QueryChars<C>>(text)
+    is_encoded::<C, QUERY>(text)
 }
 
 /// Whether the text is a fragment (RFC 3986 section 3.5).
-#[tactic(auto, using(crate::proofs::ScanLemmas::utf8), unfolding(iref_grammar::specs::Tests::is_fragment))]
+#[tactic(auto, using(crate::proofs::ScanLemmas::utf8), unfolding(iref_grammar::specs::Tests::is_fragment, crate::specs::CharRules::allowed_by))]
 pub fn is_fragment<C: CharSet>(text: &str) -> bool
     ensures { result ≡ test.is_fragment C.tests text.now }
 {
-    is_encoded::<FragmentChars<C>>(text)
+    is_encoded::<C, FRAGMENT>(text)
 }
 
 // Whether a scheme may hold each of the bytes after its first letter.
@@ -384,9 +301,9 @@ pub fn is_port(text: &str) -> bool
 }
 
 /// Whether each `%` of the text stands before two hexadecimal digits (RFC 3986 section 2.1).
-#[tactic(auto, using(crate::proofs::ScanLemmas::utf8), unfolding(iref_grammar::specs::Tests::is_pct_str))]
+#[tactic(auto, using(crate::proofs::ScanLemmas::utf8), unfolding(iref_grammar::specs::Tests::is_pct_str, crate::specs::CharRules::allowed_by))]
 pub fn is_pct_str(text: &str) -> bool
     ensures { result ≡ test.is_pct_str text.now }
 {
-    is_encoded::<PctStrChars>(text)
+    is_encoded::<UriChars, PCT_STR>(text)
 }

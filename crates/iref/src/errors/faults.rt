@@ -4,7 +4,7 @@ ghost use Rattle.iref.specs.{BytePlaces.{fault_value}, Errors.{fault_of_iri_erro
 
 use crate::errors::iri::IriError;
 use crate::errors::uri::UriError;
-use iref_fault::fault::{self, Fault};
+use iref_fault::fault::Fault;
 use iref_grammar::chars::{IriChars, UriChars};
 
 impl UriError<&str> {
@@ -15,17 +15,17 @@ impl UriError<&str> {
         ensures { option_map fault_value result ≡ fault_of_uri_error self.now }
     {
         match self {
-            UriError::Uri(error) => fault::fault_of_uri::<UriChars>(error.0),
-            UriError::Reference(error) => fault::fault_of_reference::<UriChars>(error.0),
-            UriError::Scheme(error) => fault::fault_of_scheme(error.0),
-            UriError::Authority(error) => fault::fault_of_authority::<UriChars>(error.0),
-            UriError::UserInfo(error) => fault::fault_of_user_info::<UriChars>(error.0),
-            UriError::Host(error) => fault::fault_of_host::<UriChars>(error.0),
-            UriError::Port(error) => fault::fault_of_port(error.0),
-            UriError::Path(error) => fault::fault_of_path::<UriChars>(error.0),
-            UriError::PathSegment(error) => fault::fault_of_segment::<UriChars>(error.0),
-            UriError::Query(error) => fault::fault_of_query::<UriChars>(error.0),
-            UriError::Fragment(error) => fault::fault_of_fragment::<UriChars>(error.0),
+            UriError::Uri(error) => error.fault::<UriChars>(),
+            UriError::Reference(error) => error.fault::<UriChars>(),
+            UriError::Scheme(error) => error.fault::<UriChars>(),
+            UriError::Authority(error) => error.fault::<UriChars>(),
+            UriError::UserInfo(error) => error.fault::<UriChars>(),
+            UriError::Host(error) => error.fault::<UriChars>(),
+            UriError::Port(error) => error.fault::<UriChars>(),
+            UriError::Path(error) => error.fault::<UriChars>(),
+            UriError::PathSegment(error) => error.fault::<UriChars>(),
+            UriError::Query(error) => error.fault::<UriChars>(),
+            UriError::Fragment(error) => error.fault::<UriChars>(),
         }
     }
 }
@@ -38,17 +38,17 @@ impl IriError<&str> {
         ensures { option_map fault_value result ≡ fault_of_iri_error self.now }
     {
         match self {
-            IriError::Iri(error) => fault::fault_of_uri::<IriChars>(error.0),
-            IriError::Reference(error) => fault::fault_of_reference::<IriChars>(error.0),
-            IriError::Scheme(error) => fault::fault_of_scheme(error.0),
-            IriError::Authority(error) => fault::fault_of_authority::<IriChars>(error.0),
-            IriError::UserInfo(error) => fault::fault_of_user_info::<IriChars>(error.0),
-            IriError::Host(error) => fault::fault_of_host::<IriChars>(error.0),
-            IriError::Port(error) => fault::fault_of_port(error.0),
-            IriError::Path(error) => fault::fault_of_path::<IriChars>(error.0),
-            IriError::PathSegment(error) => fault::fault_of_segment::<IriChars>(error.0),
-            IriError::Query(error) => fault::fault_of_query::<IriChars>(error.0),
-            IriError::Fragment(error) => fault::fault_of_fragment::<IriChars>(error.0),
+            IriError::Iri(error) => error.fault::<IriChars>(),
+            IriError::Reference(error) => error.fault::<IriChars>(),
+            IriError::Scheme(error) => error.fault::<IriChars>(),
+            IriError::Authority(error) => error.fault::<IriChars>(),
+            IriError::UserInfo(error) => error.fault::<IriChars>(),
+            IriError::Host(error) => error.fault::<IriChars>(),
+            IriError::Port(error) => error.fault::<IriChars>(),
+            IriError::Path(error) => error.fault::<IriChars>(),
+            IriError::PathSegment(error) => error.fault::<IriChars>(),
+            IriError::Query(error) => error.fault::<IriChars>(),
+            IriError::Fragment(error) => error.fault::<IriChars>(),
         }
     }
 }

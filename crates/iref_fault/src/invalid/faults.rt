@@ -3,13 +3,14 @@
 ghost use Rattle.std.specs.Prelude.{◌≡◌, option_map};
 ghost use Rattle.iref_fault.specs.BytePlaces.{fault_value};
 ghost use Rattle.iref_fault.specs.Faults as spec;
-ghost use Rattle.iref_fault.specs.Places as rule;
+ghost use Rattle.iref_fault.specs.declared.part.PartRule.TheVariants as rule;
 
 use crate::fault::{self, Fault};
 use crate::invalid::{
     InvalidAuthority, InvalidFragment, InvalidHost, InvalidPath, InvalidPort, InvalidQuery,
     InvalidScheme, InvalidSegment, InvalidUri, InvalidUriRef, InvalidUserInfo,
 };
+use crate::part::PartRule;
 use iref_grammar::chars::CharSet;
 
 impl InvalidUri<&str> {
@@ -38,7 +39,7 @@ impl InvalidScheme<&str> {
         ensures { option_map fault_value result
             ≡ spec.fault_of_part C.tests rule.Scheme self.now.0.now }
     {
-        fault::fault_of_scheme(self.0)
+        fault::fault_of_part::<C>(PartRule::Scheme, self.0)
     }
 }
 
@@ -58,7 +59,7 @@ impl InvalidUserInfo<&str> {
         ensures { option_map fault_value result
             ≡ spec.fault_of_part C.tests rule.UserInfo self.now.0.now }
     {
-        fault::fault_of_user_info::<C>(self.0)
+        fault::fault_of_part::<C>(PartRule::UserInfo, self.0)
     }
 }
 
@@ -68,7 +69,7 @@ impl InvalidHost<&str> {
         ensures { option_map fault_value result
             ≡ spec.fault_of_part C.tests rule.Host self.now.0.now }
     {
-        fault::fault_of_host::<C>(self.0)
+        fault::fault_of_part::<C>(PartRule::Host, self.0)
     }
 }
 
@@ -78,7 +79,7 @@ impl InvalidPort<&str> {
         ensures { option_map fault_value result
             ≡ spec.fault_of_part C.tests rule.Port self.now.0.now }
     {
-        fault::fault_of_port(self.0)
+        fault::fault_of_part::<C>(PartRule::Port, self.0)
     }
 }
 
@@ -88,7 +89,7 @@ impl InvalidPath<&str> {
         ensures { option_map fault_value result
             ≡ spec.fault_of_part C.tests rule.Path self.now.0.now }
     {
-        fault::fault_of_path::<C>(self.0)
+        fault::fault_of_part::<C>(PartRule::Path, self.0)
     }
 }
 
@@ -98,7 +99,7 @@ impl InvalidSegment<&str> {
         ensures { option_map fault_value result
             ≡ spec.fault_of_part C.tests rule.Segment self.now.0.now }
     {
-        fault::fault_of_segment::<C>(self.0)
+        fault::fault_of_part::<C>(PartRule::Segment, self.0)
     }
 }
 
@@ -108,7 +109,7 @@ impl InvalidQuery<&str> {
         ensures { option_map fault_value result
             ≡ spec.fault_of_part C.tests rule.Query self.now.0.now }
     {
-        fault::fault_of_query::<C>(self.0)
+        fault::fault_of_part::<C>(PartRule::Query, self.0)
     }
 }
 
@@ -118,6 +119,6 @@ impl InvalidFragment<&str> {
         ensures { option_map fault_value result
             ≡ spec.fault_of_part C.tests rule.Fragment self.now.0.now }
     {
-        fault::fault_of_fragment::<C>(self.0)
+        fault::fault_of_part::<C>(PartRule::Fragment, self.0)
     }
 }

@@ -14,13 +14,13 @@ returns g c =
     let first : c.cut-2.result.0.now ≡ hierarchy text = c.cut-2.ensures.before ∙ ap (before (question_mark ∷ [])) c.cut.ensures.before in
     let in_front = c.place_in_hierarchy.ensures ∙ ap (λ t. first_place set (hierarchy_pieces t)) first in
     let in_query =
-    c.place_in_query-query_place.ensures
+    c.place_if-query_place.ensures
     ∙ ap (λ o. first_place set (piece_if Query (length c.cut-2.result.0.now + 1) o)) (c.cut-2.ensures.after ∙ ap (after question_mark) c.cut.ensures.before)
     ∙ ap (λ t. first_place set (piece_if Query (length t + 1) (after question_mark body))) first in
     let in_fragment =
-    c.place_in_fragment.ensures
+    c.place_if.ensures
     ∙ ap (λ o. first_place set (piece_if Fragment (length c.cut.result.0.now + 1) o)) c.cut.ensures.after
     ∙ ap (λ t. first_place set (piece_if Fragment (length t + 1) (after hash_sign text))) c.cut.ensures.before in
-    c.or-2.ensures ∙ ap (λ o. option_or o c.place_in_fragment.result) c.or.ensures
+    c.or-2.ensures ∙ ap (λ o. option_or o c.place_if.result) c.or.ensures
     ∙ (λ i. option_or (option_or (in_front i) (in_query i)) (in_fragment i))
     ∙ place_in_parts set text
