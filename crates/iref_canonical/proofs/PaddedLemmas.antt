@@ -1,23 +1,20 @@
--- Texts behind which more bytes can be read: where a delimiter is in them.
-use Rattle.std.proofs.Common.{arith, ◌≡◌, ℕ, zero, suc, ◌+◌, ◌<◌, ◌≤◌, ◌∷◌, [], length, take, drop, refl, ◌∙◌, ap, Some, min}
-use Rattle.std.proofs.{lemmas.Bool.Decides.{nat_tests}, lemmas.Grind.{common_steps}}
-use Rattle.std.specs.{Char.{char_set_contains}, List.{position_or_len}}
-use Rattle.iref_grammar.specs.{Rules.{Text}, Texts.{after, after_first_char}}
+-- Texts behind which more bytes can be read: the parts that they begin with.
+use Rattle.std.proofs.Common.{arith, ◌≡◌, ℕ, ◌+◌, ◌≤◌, ◌++◌, length, take, drop, refl, sym, ◌∙◌, ap, append_assoc, length-append, Option, None, Some}
+use Rattle.std.proofs.lemmas.List.{drop_at, take-take, take_at}
+use Rattle.iref_grammar.specs.Rules.{Text}
+use Rattle.iref_splice.specs.Changes.{with_mark}
+use Rattle.iref_canonical.specs.Padded.{BeginsWith}
 
-abbrev pub first_of : ℕ → Text → ℕ
-first_of mark text = position_or_len (char_set_contains (mark ∷ [])) text
+pub marked_size : (mark : ℕ) (part : Option Text) (text : Text) → BeginsWith mark part text → with_mark mark part ≤ length text
+marked_size mark None text h = omega arith
+marked_size mark (Some part) text h = omega (arith, h.size, ap length h.split, length-append (h.delimiter ++ part) h.rest, length-append h.delimiter part)
 
--- found in more bytes, or the length of the text
-pub first_in_more : (mark n m : ℕ) (bytes : Text) → n ≤ m → n ≤ length bytes → min (first_of mark (take m bytes)) n ≡ first_of mark (take n bytes)
-first_in_more mark zero m bytes h k = grind (arith, common_steps)
-first_in_more mark (suc n) zero bytes h k = grind arith
-first_in_more mark (suc n) (suc m) [] h k = grind arith
-first_in_more mark (suc n) (suc m) (c ∷ cs) h k = grind (arith, nat_tests, first_in_more mark n m cs)
+pub marked_rest : (mark : ℕ) (part : Option Text) (text : Text) (h : BeginsWith mark part text) → drop (with_mark mark part) text ≡ h.rest
+marked_rest mark None text h = h.split
+marked_rest mark (Some part) text h =
+    ap (drop (mark + length part)) h.split ∙ drop_at (h.delimiter ++ part) h.rest (mark + length part) (omega (arith, h.size, length-append h.delimiter part))
 
-after_one : (n : ℕ) (text : Text) → n < length text → Some (drop (n + 1) text) ≡ after_first_char (drop n text)
-after_one n [] h = grind arith
-after_one zero (c ∷ cs) h = refl
-after_one (suc n) (c ∷ cs) h = let next : suc n + 1 ≡ suc (n + 1) = omega arith in ap (λ k. Some (drop k (c ∷ cs))) next ∙ after_one n cs (omega arith)
-
-pub after_found : (mark at : ℕ) (text : Text) → at ≡ first_of mark text → at < length text → Some (drop (at + 1) text) ≡ after mark text
-after_found mark at text e h = after_one at text h ∙ ap (λ n. after_first_char (drop n text)) e
+pub part_in : (mark len : ℕ) (part text bytes : Text) → BeginsWith mark (Some part) text → take len bytes ≡ drop mark text → length part ≤ len → take (length part) bytes ≡ part
+part_in mark len part text bytes h e most =
+    let cut = ap (drop mark) (h.split ∙ append_assoc h.delimiter part h.rest) ∙ drop_at h.delimiter (part ++ h.rest) mark h.size in
+    sym (take-take (length part) len bytes most) ∙ ap (take (length part)) (e ∙ cut) ∙ take_at part h.rest (length part) refl

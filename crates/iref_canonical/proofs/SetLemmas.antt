@@ -81,3 +81,5 @@ unfolding is_query_char is_fragment_char is_path_char is_user_info_char is_reg_n
 encoded-query = all_bytes QUERY (is_query_char uri_chars) plain_query refl
 
 pub ruleset sets = (encoded-query, encoded-segment)
+
+pub ruleset users = (encoded-user_info)

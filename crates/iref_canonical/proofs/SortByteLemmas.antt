@@ -21,6 +21,12 @@ pub sort_text-is : (bytes : Text) → sort_text bytes ≡ flat_map sort_byte byt
 unfolding sort_text
 sort_text-is bytes = refl
 
+-- ---- a part that stands
+
+pub same_part : (part : Option Text) → option_map (λ t. t) part ≡ part
+same_part None = refl
+same_part (Some text) = refl
+
 -- ---- kept texts
 
 pub kept_sorted : (text : Text) → is_kept text ≡ true → sort_text text ≡ text ++ 0 ∷ []

@@ -66,6 +66,13 @@ paths_between above h p q rest = by p.absolute q.absolute
 
 -- ---- keys
 
+-- what follows the prefix in a key: the end of the items, the query and the fragment
+pub key_is : (k : ReferenceValue) → sort_key k ≡ ((sort_prefix k ++ 0 ∷ []) ++ sort_option sort_text k.query) ++ sort_option sort_text k.fragment
+unfolding sort_key sort_path sort_path_prefix sort_prefix
+key_is k =
+    ap (λ t. (t ++ sort_option sort_text k.query) ++ sort_option sort_text k.fragment)
+    (sym (append_assoc (sort_option sort_text k.scheme ++ sort_option sort_authority k.authority) ((if k.path.absolute then 1 else 0) ∷ flat_map sort_item k.path.segments) (0 ∷ [])))
+
 abbrev front_cmp : ReferenceValue → ReferenceValue → Ordering
 front_cmp = then_cmp (on (λ (k : ReferenceValue). k.scheme) (option_cmp text_order)) (on (λ (k : ReferenceValue). k.authority) (option_cmp authority_key_cmp))
 

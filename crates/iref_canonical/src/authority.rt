@@ -41,6 +41,7 @@ fn put_host<O: Backward>(out: &mut O, raw: bool, host: &str)
 }
 
 // Puts a user info before its `@`, if there is one.
+#[tactic(auto, using(crate::proofs::SetLemmas::users, crate::proofs::EncodedLemmas::spared))]
 fn put_user_info<O: Backward>(out: &mut O, raw: bool, user_info: Option<&str>)
     requires { O.fits out.old (part_then (at_sign ∷ [])
         (option_map (encoded (stands raw (is_user_info_char uri_chars)))

@@ -1,7 +1,6 @@
 //! Whether a host decodes to an IP literal (RFC 3986 section 3.2.2).
-ghost use Rattle.std.specs.Prelude.{◌≡◌, ◌&&◌, ◌||◌, ◌==◌, length, nat_le, slice_index};
+ghost use Rattle.std.specs.Prelude.{◌≡◌, ◌&&◌, length, nat_le};
 ghost use Rattle.percent_encoding.specs.Percent.{percent_decode};
-ghost use Rattle.iref_grammar.specs.Grammar.{left_bracket, percent_sign};
 ghost use Rattle.iref_grammar.specs.Tests as test;
 ghost use Rattle.iref_canonical.specs.FutureLiteral as future;
 
@@ -43,13 +42,6 @@ fn after_byte(progress: Progress, byte: u8) -> Progress
     }
 }
 
-// Whether all of it was read.
-fn is_whole(progress: Progress) -> bool
-    ensures { result ≡ future.is_whole progress }
-{
-    matches!(progress, Progress::Whole)
-}
-
 // Whether the text decodes to an address of a future version in brackets.
 #[tactic(auto, using(crate::proofs::FutureLiteralLemmas::reads))]
 fn decodes_to_future(text: &str) -> bool
@@ -60,7 +52,7 @@ fn decodes_to_future(text: &str) -> bool
     for byte in percent_decode_str(text) {
         progress = after_byte(progress, byte);
     }
-    is_whole(progress)
+    matches!(progress, Progress::Whole)
 }
 
 // Whether the bytes are an IP literal.
@@ -91,26 +83,11 @@ fn few_decode(text: &str) -> bool
     are_ip_literal(&bytes[..len])
 }
 
-// Whether all of the text decodes to an IP literal. Each of its bytes is decoded.
-#[tactic(auto, using(crate::proofs::LiteralLengthLemmas::literal_left))]
-fn is_literal_decoded(text: &str) -> bool
-    ensures { result ≡ test.is_ip_literal (percent_decode text.now) }
-{
-    few_decode(text) || decodes_to_future(text)
-}
-
-// Whether the first byte may be that of an IP literal, or of its escape.
-fn begins_as_literal(text: &str) -> bool
-    ensures { result ≡ (slice_index text.now 0 == left_bracket
-        || slice_index text.now 0 == percent_sign) }
-{
-    text.starts_with('[') || text.starts_with('%')
-}
-
 /// Whether the text decodes to an IP literal. Of most hosts the first byte tells that they do not.
-#[tactic(auto, using(crate::proofs::LiteralLengthLemmas::no_literal))]
+#[tactic(auto, using(crate::proofs::LiteralLengthLemmas::no_literal, crate::proofs::LiteralLengthLemmas::literal_left))]
 pub(crate) fn decodes_to_ip_literal(text: &str) -> bool
     ensures { result ≡ test.is_ip_literal (percent_decode text.now) }
 {
-    begins_as_literal(text) && is_literal_decoded(text)
+    let may_be = text.starts_with('[') || text.starts_with('%');
+    may_be && (few_decode(text) || decodes_to_future(text))
 }

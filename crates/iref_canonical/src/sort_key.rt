@@ -4,9 +4,11 @@ ghost use Rattle.std.specs.Prelude.{◌≡◌, ◌++◌, IfOk, OnErr, OnOk};
 ghost use Rattle.iref_grammar.specs.{ComponentTexts.{spell_components}, Reference.{read_reference}};
 ghost use Rattle.iref_model.specs.Key.{key};
 ghost use Rattle.iref_parse.specs.ReferenceSlices.{texts_of, value_of};
-ghost use Rattle.iref_canonical.specs.{SortKey.{sort_key, sort_path}, SortedReferences.{IsSorted, sorted_key}};
+ghost use Rattle.iref_canonical.specs.{SortKey.{sort_key}, SortPrefix.{sort_prefix}};
+ghost use Rattle.iref_canonical.specs.SortedReferences.{IsSorted, sorted_key};
 
-use crate::sort_parts::{put_authority_option, put_option, put_scheme};
+use crate::key_bytes::Lower;
+use crate::sort_parts::{put_authority_option, put_option, put_part};
 use crate::sort_path::Items;
 use crate::sort_short::{LONGEST, ROOM, put_short};
 use iref_parse::split::ReferenceSlices;
@@ -48,15 +50,17 @@ impl<'a> SortedReference<'a> {
         }
     }
 
-    // Puts the path.
-    #[tactic(auto, unfolding(crate::specs::SortKey::sort_path))]
-    fn put_path<O: Backward>(&self, out: &mut O)
+    /// Puts the sort prefix: all up to the last item of the path, which more items can follow.
+    #[tactic(auto, unfolding(crate::specs::SortPrefix::sort_prefix, crate::specs::SortPrefix::sort_path_prefix))]
+    pub(crate) fn put_prefix<O: Backward>(&self, out: &mut O)
         requires sorted { IsSorted self.now }
-        requires fits { O.fits out.old (sort_path (sorted_key self.now).path) }
-        ensures { out.new ≡ O.after out.old (sort_path (sorted_key self.now).path) }
+        requires fits { O.fits out.old (sort_prefix (sorted_key self.now)) }
+        ensures { out.new ≡ O.after out.old (sort_prefix (sorted_key self.now)) }
     {
         self.items.put(out);
         out.put(&[u8::from(self.absolute)]);
+        put_authority_option(out, self.slices.authority, self.kept);
+        put_part::<Lower, _>(out, self.slices.scheme);
     }
 }
 
@@ -65,13 +69,12 @@ impl Unwritten for SortedReference<'_> {
 
     ghost is_sound = { IsSorted };
 
-    #[tactic(auto, unfolding(crate::specs::SortKey::sort_key))]
+    #[tactic(auto, using(crate::proofs::SortPrefixLemmas::key_is))]
     fn put<O: Backward>(&self, out: &mut O) {
         put_option(out, self.slices.fragment, self.kept);
         put_option(out, self.slices.query, self.kept);
-        self.put_path(out);
-        put_authority_option(out, self.slices.authority, self.kept);
-        put_scheme(out, self.slices.scheme);
+        out.put(&[0]);
+        self.put_prefix(out);
     }
 }
 

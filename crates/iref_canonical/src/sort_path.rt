@@ -4,7 +4,7 @@ ghost use Rattle.std.specs.{List.{flat_map}, Prelude.{◌≡◌, IfSome, false, 
 ghost use Rattle.iref_grammar.specs.PathValue.{read_path};
 ghost use Rattle.iref_model.specs.PathKey.{path_key};
 ghost use Rattle.iref_path.specs.{NormalItems.{IsSound, decoded_left}, Pieces.{pieces_if_some}};
-ghost use Rattle.iref_canonical.specs.{SortItems.{AreItems, AreKept, items_of}, SortKey.{sort_item, sort_list}};
+ghost use Rattle.iref_canonical.specs.{SortItems.{AreItems, AreKept, items_of}, SortKey.{sort_item}};
 ghost use Rattle.iref_canonical.specs.SortBytes as bytes;
 
 use crate::sort_text::put_text;
@@ -97,19 +97,9 @@ impl<'a> Items<'a> {
         }
     }
 
-    /// Puts the items, and their end.
-    pub(crate) fn put<O: Backward>(self, out: &mut O)
-        requires sound { AreItems self }
-        requires fits { O.fits out.old (sort_list sort_item (items_of self)) }
-        ensures { out.new ≡ O.after out.old (sort_list sort_item (items_of self.entry)) }
-    {
-        out.put(&[0]);
-        self.put_open(out);
-    }
-
     /// Puts the items, which more can follow.
     #[inline(always)]
-    pub(crate) fn put_open<O: Backward>(self, out: &mut O)
+    pub(crate) fn put<O: Backward>(self, out: &mut O)
         requires sound { AreItems self }
         requires fits { O.fits out.old (flat_map sort_item (items_of self)) }
         ensures { out.new ≡ O.after out.old (flat_map sort_item (items_of self.entry)) }

@@ -5,31 +5,17 @@ ghost use Rattle.std.specs.{BTreeMap.Range.{IsLeBy}, Prelude.{◌≡◌, ◌++�
 ghost use Rattle.iref_grammar.specs.{ComponentTexts.{spell_components}, Keys.{text_order}, Reference.{read_reference}};
 ghost use Rattle.iref_model.specs.Key.{key};
 ghost use Rattle.iref_parse.specs.ReferenceSlices.{texts_of, value_of};
-ghost use Rattle.iref_canonical.specs.SortPrefix.{sort_path_prefix, sort_prefix, sort_prefix_end};
+ghost use Rattle.iref_canonical.specs.SortPrefix.{sort_prefix, sort_prefix_end};
 ghost use Rattle.iref_canonical.specs.SortedReferences.{IsSorted, sorted_key};
 
 use crate::owned::SortKey;
 use crate::sort_key::SortedReference;
-use crate::sort_parts::{put_authority_option, put_scheme};
 use iref_parse::split::ReferenceSlices;
 use iref_splice::Memory;
 use iref_splice::backward::Backward;
 use iref_splice::unwritten::Unwritten;
 use std::alloc::Global;
 use std::ops::Range;
-
-impl SortedReference<'_> {
-    // Puts the path, which more items can follow.
-    #[tactic(auto, unfolding(crate::specs::SortPrefix::sort_path_prefix))]
-    fn put_path_prefix<O: Backward>(&self, out: &mut O)
-        requires sorted { IsSorted self.now }
-        requires fits { O.fits out.old (sort_path_prefix (sorted_key self.now).path) }
-        ensures { out.new ≡ O.after out.old (sort_path_prefix (sorted_key self.now).path) }
-    {
-        self.items.put_open(out);
-        out.put(&[u8::from(self.absolute)]);
-    }
-}
 
 // The sort prefix of a reference, not written yet.
 #[derive(Clone, Copy)]
@@ -42,12 +28,8 @@ impl Unwritten for SortPrefix<'_> {
 
     ghost is_sound = { λ p. IsSorted p.reference };
 
-    #[tactic(auto, unfolding(crate::specs::SortPrefix::sort_prefix))]
     fn put<O: Backward>(&self, out: &mut O) {
-        let SortedReference { slices, kept, .. } = self.reference;
-        self.reference.put_path_prefix(out);
-        put_authority_option(out, slices.authority, kept);
-        put_scheme(out, slices.scheme);
+        self.reference.put_prefix(out);
     }
 }
 

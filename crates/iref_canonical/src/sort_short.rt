@@ -1,24 +1,24 @@
 //! Sort keys of short texts whose bytes stand in them as they are, written from the front.
 
-ghost use Rattle.std.specs.Prelude.{◌≡◌, ℕ, ◌+◌, ◌<◌, ◌≤◌, ◌++◌, [], ◌∷◌, drop, take, false, IfSome, None, length};
+ghost use Rattle.std.specs.Prelude.{◌≡◌, ℕ, ◌+◌, ◌<◌, ◌≤◌, ◌++◌, [], ◌∷◌, take, false, IfSome, length};
 ghost use Rattle.std.specs.{Prelude.{option_map, true}, Option.{option_copied}, Str.{str_to_ascii_lowercase}};
-ghost use Rattle.iref_grammar.specs.Authority.{after_bracketed, bracketed, read_authority, read_host};
-ghost use Rattle.iref_grammar.specs.{Authority.{read_host_and_port}, Grammar.{colon}};
-ghost use Rattle.iref_grammar.specs.{PathValue.{read_path, segments_of}, Tests.{none_or}, Rules.{Text}};
-ghost use Rattle.iref_grammar.specs.{Texts.{after, part_then, then_part}, ComponentTexts.{spell_components}};
+ghost use Rattle.iref_grammar.specs.{Authority.{read_authority}, ComponentTexts.{spell_components}};
+ghost use Rattle.iref_grammar.specs.{PathValue.{read_path, segments_of}, Tests.{none_or}};
 ghost use Rattle.iref_grammar.specs.Reference.{read_reference};
 ghost use Rattle.iref_model.specs.Key.{key};
 ghost use Rattle.iref_parse.specs.{Dots.{has_dot_segment}, ReferenceSlices.{texts_of, value_of}};
-ghost use Rattle.iref_canonical.specs.{Padded.{IsPadded, text_in}, SortBytes.{is_kept, are_kept_parts}};
+ghost use Rattle.iref_canonical.specs.{Padded.{BeginsWith, IsPadded, text_in}, SortBytes.{is_kept, are_kept_parts}};
 ghost use Rattle.iref_canonical.specs.{SortKey.{sort_authority, sort_item, sort_key, sort_list}};
 ghost use Rattle.iref_canonical.specs.{SortKey.{sort_option, sort_path, sort_text}, SortPuts.{AreKeptSlices, Puts}};
-ghost use Rattle.iref_canonical.specs.SortPuts.{segment_bytes, sorted_from_authority, sorted_slices, sorted_tail};
-ghost use Rattle.iref_canonical.specs.SortPuts.{spelled_from_authority, spelled_slices, spelled_tail};
+ghost use Rattle.iref_canonical.specs.SortPuts.{segment_bytes, sorted_slices, sorted_tail};
+ghost use Rattle.iref_canonical.specs.SortPuts.{spelled_slices, spelled_tail};
 
 use crate::padded::Padded;
+use iref_parse::authority::split_parts;
 use iref_parse::position::{position_of, position_of_either};
 use iref_parse::split::ReferenceSlices;
 use iref_parse::unescaped::are_kept_blocks;
+use iref_splice::text::marked_len;
 use std::simd::prelude::*;
 
 // The length of the longest text whose sort key is written so.
@@ -85,21 +85,40 @@ fn put_padded(buffer: &mut [u8], at: usize, text: Padded<'_>) -> usize
     put(buffer, at + text.len, 0)
 }
 
-// Puts a text that may not be there.
+// Puts a part of an authority that may not be there.
 #[inline(always)]
 #[tactic(auto, using(crate::proofs::SortPutLemmas::puts))]
-fn put_option(buffer: &mut [u8], at: usize, text: Option<Padded<'_>>) -> usize
-    requires kept { none_or is_kept (option_map text_in text) ≡ true }
-    requires padded { IfSome text IsPadded }
-    requires room { at + length (sort_option sort_text (option_map text_in text)) + 16
-        ≤ length buffer.old }
-    ensures { Puts at (sort_option sort_text (option_map text_in text.entry))
+fn put_text_option(buffer: &mut [u8], at: usize, text: Option<&str>) -> usize
+    requires kept { none_or is_kept (option_copied text) ≡ true }
+    requires room { at + length (sort_option sort_text (option_copied text)) ≤ length buffer.old }
+    ensures { Puts at (sort_option sort_text (option_copied text.entry))
         buffer.old buffer.new result }
 {
     match text {
         Some(text) => {
             let at = put(buffer, at, 1);
-            put_padded(buffer, at, text)
+            put_text(buffer, at, text)
+        }
+        None => put(buffer, at, 0),
+    }
+}
+
+// Puts a part behind a delimiter of one byte, which may not be there.
+#[inline(always)]
+#[tactic(auto, using(crate::proofs::SortPutLemmas::puts))]
+fn put_option(buffer: &mut [u8], at: usize, text: Padded<'_>, part: Option<&str>) -> usize
+    requires kept { none_or is_kept (option_copied part) ≡ true }
+    requires begins { BeginsWith 1 (option_copied part) (text_in text) }
+    requires padded { IsPadded text }
+    requires room { at + length (sort_option sort_text (option_copied part)) + 16
+        ≤ length buffer.old }
+    ensures { Puts at (sort_option sort_text (option_copied part.entry))
+        buffer.old buffer.new result }
+{
+    match part {
+        Some(part) => {
+            let at = put(buffer, at, 1);
+            put_padded(buffer, at, text.part(1, part))
         }
         None => put(buffer, at, 0),
     }
@@ -228,153 +247,63 @@ fn put_scheme(buffer: &mut [u8], at: usize, scheme: Option<&str>) -> usize
     }
 }
 
-// Where the first `:` of a host and a port can stand: behind an address in brackets.
-#[inline(always)]
-#[tactic(auto, using(crate::proofs::SortCutLemmas::hosts))]
-fn address_len(text: Padded<'_>) -> usize
-    requires { IsPadded text }
-    ensures value { take result (text_in text.entry) ≡ bracketed (text_in text.entry) }
-    ensures rest { drop result (text_in text.entry) ≡ after_bracketed (text_in text.entry) }
-    ensures within { result ≤ text.entry.len }
-{
-    if 0 < text.len && text.bytes[0] == b'[' {
-        text.position(b']')
-    } else {
-        0
-    }
-}
-
-// Puts a host, and a port, which may not be there.
-#[inline(always)]
-#[tactic(auto, using(crate::proofs::SortCutLemmas::hosts, std::proofs::lemmas::Grind::common_steps))]
-fn put_host(buffer: &mut [u8], at: usize, text: Padded<'_>) -> usize
-    requires kept { are_kept_parts (read_host_and_port None (text_in text)) ≡ true }
-    requires padded { IsPadded text }
-    requires room { at + length (sort_text (read_host (text_in text))
-        ++ sort_option sort_text (after colon (after_bracketed (text_in text)))) + 16
-        ≤ length buffer.old }
-    ensures { Puts at (sort_text (read_host (text_in text.entry))
-        ++ sort_option sort_text (after colon (after_bracketed (text_in text.entry))))
-        buffer.old buffer.new result }
-{
-    let address = address_len(text);
-    let (name, port) = text.skip(address).cut(b':');
-    let at = put_padded(buffer, at, text.front(address + name.len));
-    put_option(buffer, at, port)
-}
-
 // Puts the parts of an authority.
-#[inline(always)]
 #[tactic(auto, using(crate::proofs::SortCutLemmas::parts))]
-fn put_parts(buffer: &mut [u8], at: usize, text: Padded<'_>) -> usize
-    requires kept { are_kept_parts (read_authority (text_in text)) ≡ true }
-    requires padded { IsPadded text }
-    requires room { at + length (sort_authority (read_authority (text_in text))) + 16
-        ≤ length buffer.old }
-    ensures { Puts at (sort_authority (read_authority (text_in text.entry)))
-        buffer.old buffer.new result }
+fn put_parts(buffer: &mut [u8], at: usize, text: &str) -> usize
+    requires kept { are_kept_parts (read_authority text.now) ≡ true }
+    requires room { at + length (sort_authority (read_authority text.now)) ≤ length buffer.old }
+    ensures { Puts at (sort_authority (read_authority text.now)) buffer.old buffer.new result }
 {
-    let (user_info, back) = text.cut(b'@');
-    match back {
-        Some(rest) => {
-            let at = put_option(buffer, at, Some(user_info));
-            put_host(buffer, at, rest)
-        }
-        None => {
-            let at = put(buffer, at, 0);
-            put_host(buffer, at, text)
-        }
-    }
+    let parts = split_parts(text);
+    let at = put_text_option(buffer, at, parts.user_info);
+    let at = put_text(buffer, at, parts.host);
+    put_text_option(buffer, at, parts.port)
 }
 
 // Puts an authority. Most are a host of at most 16 bytes.
 #[inline(always)]
 #[tactic(auto, using(crate::proofs::SortCutLemmas::lone))]
-fn put_authority(buffer: &mut [u8], at: usize, text: Padded<'_>) -> usize
-    requires kept { are_kept_parts (read_authority (text_in text)) ≡ true }
-    requires padded { IsPadded text }
-    requires room { at + length (sort_authority (read_authority (text_in text))) + 16
+fn put_authority(buffer: &mut [u8], at: usize, block: &[u8], text: &str) -> usize
+    requires kept { are_kept_parts (read_authority text.now) ≡ true }
+    requires begins { take (length text.now) block.now ≡ text.now }
+    requires block { 16 ≤ length block.now }
+    requires room { at + length (sort_authority (read_authority text.now)) + 16
         ≤ length buffer.old }
-    ensures { Puts at (sort_authority (read_authority (text_in text.entry)))
-        buffer.old buffer.new result }
+    ensures { Puts at (sort_authority (read_authority text.now)) buffer.old buffer.new result }
 {
-    if position_of_either(&text.bytes[..16], b'@', b':') < text.len {
+    if position_of_either(&block[..16], b'@', b':') < text.len() {
         return put_parts(buffer, at, text);
     }
     let at = put(buffer, at, 0);
-    store_block(buffer, at, text.bytes);
-    let at = put(buffer, at + text.len, 0);
+    store_block(buffer, at, block);
+    let at = put(buffer, at + text.len(), 0);
     put(buffer, at, 0)
 }
 
-// Puts an authority that may not be there.
+// Puts an authority behind its `//`, which may not be there.
 #[inline(always)]
-fn put_authority_option(buffer: &mut [u8], at: usize, text: Option<Padded<'_>>) -> usize
+fn put_authority_option(buffer: &mut [u8], at: usize, text: Padded<'_>, part: Option<&str>) -> usize
     requires kept { none_or are_kept_parts
-        (option_map read_authority (option_map text_in text)) ≡ true }
-    requires padded { IfSome text IsPadded }
+        (option_map read_authority (option_copied part)) ≡ true }
+    requires begins { BeginsWith 2 (option_copied part) (text_in text) }
+    requires padded { IsPadded text }
     requires room { at + length (sort_option sort_authority
-        (option_map read_authority (option_map text_in text))) + 16 ≤ length buffer.old }
+        (option_map read_authority (option_copied part))) + 16 ≤ length buffer.old }
     ensures { Puts at (sort_option sort_authority
-        (option_map read_authority (option_map text_in text.entry)))
-        buffer.old buffer.new result }
+        (option_map read_authority (option_copied part.entry))) buffer.old buffer.new result }
 {
-    match text {
-        Some(text) => {
+    match part {
+        Some(part) => {
             let at = put(buffer, at, 1);
-            put_authority(buffer, at, text)
+            put_authority(buffer, at, text.part(2, part).bytes, part)
         }
         None => put(buffer, at, 0),
     }
 }
 
-// What follows the scheme.
-#[inline(always)]
-fn after_scheme<'a>(text: Padded<'a>, scheme: Option<&str>) -> Padded<'a>
-    requires padded { IsPadded text }
-    requires within { length (part_then (colon ∷ []) (option_copied scheme))
-        ≤ length (text_in text) }
-    ensures rest { (rest : Text)
-        → text_in text.entry ≡ part_then (colon ∷ []) (option_copied scheme.entry) ++ rest
-        → text_in result ≡ rest }
-    ensures padded { IsPadded result }
-{
-    match scheme {
-        Some(scheme) => text.skip(scheme.len() + 1),
-        None => text,
-    }
-}
-
-// The part that follows a delimiter of this length, if it is there, and what follows the part.
-#[inline(always)]
-fn split_part<'a>(
-    text: Padded<'a>,
-    mark: usize,
-    part: Option<&str>,
-) -> (Option<Padded<'a>>, Padded<'a>)
-    requires padded { IsPadded text }
-    requires within { IfSome part (λ it. mark + length it.now ≤ length (text_in text)) }
-    ensures part { (delimiter rest : Text) → length delimiter ≡ mark
-        → text_in text.entry ≡ then_part delimiter (option_copied part.entry) ++ rest
-        → option_map text_in result.0 ≡ option_copied part.entry }
-    ensures rest { (delimiter rest : Text) → length delimiter ≡ mark
-        → text_in text.entry ≡ then_part delimiter (option_copied part.entry) ++ rest
-        → text_in result.1 ≡ rest }
-    ensures part_padded { IfSome result.0 IsPadded }
-    ensures rest_padded { IsPadded result.1 }
-{
-    match part {
-        Some(part) => {
-            let rest = text.skip(mark);
-            (Some(rest.front(part.len())), rest.skip(part.len()))
-        }
-        None => (None, text),
-    }
-}
-
 // Puts the query and the fragment of a text that begins with them.
 #[inline(always)]
-#[tactic(auto, using(crate::proofs::SortPutLemmas::puts, std::proofs::lemmas::Grind::common_steps))]
+#[tactic(auto, using(crate::proofs::SortPutLemmas::puts, crate::proofs::SortCutLemmas::cuts))]
 fn put_tail(buffer: &mut [u8], at: usize, text: Padded<'_>, slices: ReferenceSlices<'_>) -> usize
     requires spelled { text_in text ≡ spelled_tail slices }
     requires kept { AreKeptSlices slices }
@@ -382,39 +311,14 @@ fn put_tail(buffer: &mut [u8], at: usize, text: Padded<'_>, slices: ReferenceSli
     requires room { at + length (sorted_tail slices) + 16 ≤ length buffer.old }
     ensures { Puts at (sorted_tail slices.entry) buffer.old buffer.new result }
 {
-    let (query, rest) = split_part(text, 1, slices.query);
-    let at = put_option(buffer, at, query);
-    let (fragment, _) = split_part(rest, 1, slices.fragment);
-    put_option(buffer, at, fragment)
-}
-
-// Puts the authority and what follows it.
-#[inline(always)]
-#[tactic(auto, using(crate::proofs::SortPutLemmas::puts))]
-fn put_from_authority(
-    buffer: &mut [u8],
-    at: usize,
-    text: Padded<'_>,
-    slices: ReferenceSlices<'_>,
-) -> Option<usize>
-    requires spelled { text_in text ≡ spelled_from_authority slices }
-    requires kept { AreKeptSlices slices }
-    requires padded { IsPadded text }
-    requires room { at + length (sorted_from_authority slices) + 16 ≤ length buffer.old }
-    ensures put { IfSome result (λ end.
-        Puts at (sorted_from_authority slices.entry) buffer.old buffer.new end) }
-    ensures dotless { IfSome result (λ end.
-        has_dot_segment slices.entry.path.now ≡ false) }
-{
-    let (authority, rest) = split_part(text, 2, slices.authority);
-    let at = put_authority_option(buffer, at, authority);
-    let at = put_path(buffer, at, rest.front(slices.path.len()))?;
-    Some(put_tail(buffer, at, rest.skip(slices.path.len()), slices))
+    let at = put_option(buffer, at, text, slices.query);
+    let rest = text.skip(marked_len(1, slices.query));
+    put_option(buffer, at, rest, slices.fragment)
 }
 
 // Puts the sort key of the reference of these components, from the front of the buffer.
 #[inline(always)]
-#[tactic(auto, using(crate::proofs::SortPutLemmas::puts))]
+#[tactic(auto, using(crate::proofs::SortPutLemmas::puts, crate::proofs::SortCutLemmas::cuts))]
 fn put_all(buffer: &mut [u8], text: Padded<'_>, slices: ReferenceSlices<'_>) -> Option<usize>
     requires spelled { text_in text ≡ spelled_slices slices }
     requires kept { AreKeptSlices slices }
@@ -426,8 +330,11 @@ fn put_all(buffer: &mut [u8], text: Padded<'_>, slices: ReferenceSlices<'_>) -> 
         has_dot_segment slices.entry.path.now ≡ false) }
 {
     let at = put_scheme(buffer, 0, slices.scheme);
-    let rest = after_scheme(text, slices.scheme);
-    put_from_authority(buffer, at, rest, slices)
+    let rest = text.skip(marked_len(1, slices.scheme));
+    let at = put_authority_option(buffer, at, rest, slices.authority);
+    let rest = rest.skip(marked_len(2, slices.authority));
+    let at = put_path(buffer, at, rest.part(0, slices.path))?;
+    Some(put_tail(buffer, at, rest.skip(slices.path.len()), slices))
 }
 
 // Puts the sort key of a short text, unless a byte stands in it otherwise or a segment of the path

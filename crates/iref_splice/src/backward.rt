@@ -26,7 +26,10 @@ pub trait Backward {
     fn put_len(&mut self, len: usize) -> bool
         ensures taken { result ≡ true → (text : Text) → length text ≡ len
             → self.new ≡ after self.old text }
-        ensures not_taken { result ≡ false → self.new ≡ self.old };
+        ensures not_taken { result ≡ false → self.new ≡ self.old }
+    {
+        false
+    }
 
     /// Nothing changes it.
     ghost after_nothing: { (out : Self) → after out [] ≡ out };
@@ -142,10 +145,6 @@ impl Backward for Compared<'_> {
         };
     }
 
-    fn put_len(&mut self, len: usize) -> bool {
-        false
-    }
-
     ghost after_nothing = { compared-nothing };
 
     ghost after_both = { compared-both };
@@ -187,10 +186,6 @@ impl Backward for Filled<'_> {
         let start = self.start - piece.len();
         self.bytes[start..self.start].copy_from_slice(piece);
         self.start = start;
-    }
-
-    fn put_len(&mut self, len: usize) -> bool {
-        false
     }
 
     ghost after_nothing = { filled-nothing };

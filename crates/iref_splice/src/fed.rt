@@ -171,10 +171,6 @@ impl<H: Hasher> Backward for Fed<'_, H> {
         self.waiting.put(piece, self.state);
     }
 
-    fn put_len(&mut self, len: usize) -> bool {
-        false
-    }
-
     ghost after_nothing = { λ f i. record f {
       state = record f.state { now = fed-nothing H.write f.state.now f.waiting i };
       waiting = waiting-nothing f.waiting i;

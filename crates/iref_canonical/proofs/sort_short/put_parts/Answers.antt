@@ -1,17 +1,24 @@
-use Rattle.std.proofs.{Common.{arith, length-append}, lemmas.Bool.Decides.{nat_tests}}
-use Rattle.iref_canonical.specs.Padded.{text_in}
-use Rattle.iref_canonical.proofs.{SortCutLemmas.{host_part, read_no_user, read_user}, SortPutLemmas.{joined_put}}
+use Rattle.std.proofs.Common.{arith, ◌∙◌, ap, length, length-append, sym}
+use Rattle.iref_grammar.specs.Authority.{AuthorityValue}
+use Rattle.iref_parse.specs.AuthoritySlices.{authority_of}
+use Rattle.iref_canonical.specs.{SortBytes.{are_kept_parts}, SortKey.{sort_authority}}
+use Rattle.iref_canonical.proofs.{SortCutLemmas.{authority_is}, SortPutLemmas.{both_put, joined_put, parts_size}}
 use Rattle.iref_canonical.proofs.sort_short.put_parts.Goals as goal
 
-pub put_option-at-requires-clause-kept : goal.put_option-at-requires-clause-kept
-put_option-at-requires-clause-kept c = grind (arith, nat_tests, read_user (text_in c.args.text) (text_in c.in-Some.rest))
+pub put_text-at-requires : goal.put_text-at-requires
+put_text-at-requires c =
+    let is = c.split_parts-parts.ensures in
+    let size = sym (ap (λ (a : AuthorityValue). length (sort_authority a)) is) ∙ parts_size (authority_of c.split_parts-parts.result) (ap are_kept_parts is ∙ c.requires.kept) in
+    omega arith
 
-pub put_option-at-requires-clause-room : goal.put_option-at-requires-clause-room
-put_option-at-requires-clause-room c = grind (arith, length-append, host_part, read_user (text_in c.args.text) (text_in c.in-Some.rest))
+pub put_text_option-requires-clause-room : goal.put_text_option-requires-clause-room
+put_text_option-requires-clause-room c =
+    let is = c.split_parts-parts.ensures in
+    let size = sym (ap (λ (a : AuthorityValue). length (sort_authority a)) is) ∙ parts_size (authority_of c.split_parts-parts.result) (ap are_kept_parts is ∙ c.requires.kept) in
+    grind (arith, length-append)
 
-pub returns-in-Some : goal.returns-in-Some
-returns-in-Some c =
-    joined_put _ _ _ c.put_option-at.ensures c.put_host.ensures (grind (arith, host_part, read_user (text_in c.args.text) (text_in c.in-Some.rest)))
-
-pub returns-in-None : goal.returns-in-None
-returns-in-None c = joined_put _ _ _ c.put-at.ensures c.put_host-in-None.ensures (grind (arith, host_part, read_no_user))
+pub returns : goal.returns
+returns c =
+    let is = c.split_parts-parts.ensures in
+    joined_put _ _ _ c.put_text_option-at.ensures (both_put _ _ c.put_text-at.ensures c.put_text_option.ensures)
+    (sym (ap sort_authority is) ∙ authority_is (authority_of c.split_parts-parts.result) (ap are_kept_parts is ∙ c.requires.kept))
