@@ -1,5 +1,5 @@
 -- Two lists that are read from the back, and compared.
-use Rattle.std.proofs.Common.{◌≡◌, ◌∙◌, ap, ℕ, ◌+◌, ◌-◌, Bool, true, false, cond, List, [], ◌∷◌, ◌++◌, length, take, arith, length-append, nat_lt, Ordering, Equal}
+use Rattle.std.proofs.Common.{◌≡◌, ℕ, ◌+◌, Bool, true, cond, List, [], ◌∷◌, ◌++◌, length, take, arith, length-append, nat_lt, Ordering, Equal}
 use Rattle.std.proofs.{lemmas.Grind.{common_steps}, lemmas.Bool.Decides.{nat_tests}}
 use Rattle.std.proofs.{lemmas.List.Sums.{common_prefix_len-le}, lemmas.Map.Text.{is_eq-slice_cmp}}
 use Rattle.std.proofs.lemmas.Slice.Eq.{bytes_eq-Decides}
@@ -7,8 +7,7 @@ use Rattle.std.specs.{List.{common_prefix_len}, Cmp.Lexicographic.{slice_cmp}, O
 use Rattle.std.specs.Str.{bytes_eq}
 use Rattle.percent_encoding.specs.Percent.{percent_decode}
 use Rattle.iref_grammar.specs.{Keys.{text_order}, Rules.{Text}}
-use Rattle.iref_model.specs.PathSuffix.{same_decoded}
-use Rattle.iref_path.proofs.OrderLemmas.{decoded, order-before}
+use Rattle.iref_path.proofs.OrderLemmas.{order-before}
 
 -- the common prefix where it ends within a list of this number of items, else this one
 abbrev pub or_else : ℕ → ℕ → ℕ → ℕ
@@ -26,24 +25,6 @@ module _ {A : Type 0} (E : A → A → Bool) where
   common-cut [] ys = grind (arith, common_steps)
   common-cut (x ∷ xs) ys = grind (arith, common_steps, common-cut xs)
 
-  -- nothing is read yet
-  pub common-unread : (xs ys : List A) (n : ℕ) → length xs ≡ n → common_prefix_len E xs ys ≡ or_else (common_prefix_len E xs ys) (length xs) n
-  common-unread xs ys n h = grind (arith, common_prefix_len-le)
-
-  -- a last pair is read, which is the same, or is not
-  module _ (xs ys us vs : List A) (s t : A) (common n : ℕ) (left : length xs ≡ n) (right : length ys ≡ n) (e : xs ≡ us ++ s ∷ []) (f : ys ≡ vs ++ t ∷ []) where
-    pub sizes-before : (length us + 1 ≡ n) × (length vs + 1 ≡ n)
-    sizes-before = (omega (arith, ap length e, length-append us (s ∷ [])), omega (arith, ap length f, length-append vs (t ∷ [])))
-
-    joined-before : common_prefix_len E xs ys ≡ or_else (common_prefix_len E us vs) (length us) (cond (E s t) (length us + 1) (length us))
-    joined-before = (λ i. common_prefix_len E (e i) (f i)) ∙ common-last us vs s t (omega (arith, sizes-before))
-
-    pub common-agrees : E s t ≡ true → or_else (common_prefix_len E xs ys) (length xs) common ≡ or_else (common_prefix_len E us vs) (length us) common
-    common-agrees h = grind (arith, nat_tests, joined-before, sizes-before, common_prefix_len-le E us vs)
-
-    pub common-differs : E s t ≡ false → or_else (common_prefix_len E xs ys) (length xs) common ≡ or_else (common_prefix_len E us vs) (length us) (n - 1)
-    common-differs h = grind (arith, nat_tests, joined-before, sizes-before, common_prefix_len-le E us vs)
-
 -- ---- two items
 
 -- one text is its own equal
@@ -52,22 +33,22 @@ same_text-order s t h = grind (arith, bytes_eq-Decides, is_eq-slice_cmp (percent
 
 -- ---- two lists, of which all but these items are read: how many are common where these are, and the order of what is read
 
-pub record IsCompared (xs ys us vs : List Text) (count : ℕ) (found : Ordering) : Type 0 where
-  pub common : common_prefix_len same_decoded xs ys ≡ or_else (common_prefix_len same_decoded us vs) (length us) count
-  pub order : slice_cmp text_order (decoded xs) (decoded ys) ≡ ordering_then (slice_cmp text_order (decoded us) (decoded vs)) found
+module _ (same : Text → Text → Bool) (order_of : Text → Text → Ordering) where
+  pub record IsCompared (xs ys us vs : List Text) (count : ℕ) (found : Ordering) : Type 0 where
+    pub common : common_prefix_len same xs ys ≡ or_else (common_prefix_len same us vs) (length us) count
+    pub order : slice_cmp order_of xs ys ≡ ordering_then (slice_cmp order_of us vs) found
 
-pub nothing_compared : (xs ys : List Text) (n : ℕ) → length xs ≡ n → IsCompared xs ys xs ys n Equal
-nothing_compared xs ys n h = grind (arith, common_prefix_len-le)
+  pub nothing_compared : (xs ys : List Text) (n : ℕ) → length xs ≡ n → IsCompared xs ys xs ys n Equal
+  nothing_compared xs ys n h = grind (arith, common_prefix_len-le)
 
-pub all_compared : (xs ys us vs : List Text) (common : ℕ) (order : Ordering) → IsCompared xs ys us vs common order → us ≡ [] → length us ≡ length vs
-    → (common ≡ common_prefix_len same_decoded xs ys) × (order ≡ slice_cmp text_order (decoded xs) (decoded ys))
-all_compared xs ys us vs common order h e k = grind (arith, common_steps)
+  pub all_compared : (xs ys us vs : List Text) (common : ℕ) (order : Ordering) → IsCompared xs ys us vs common order → us ≡ [] → length us ≡ length vs
+      → (common ≡ common_prefix_len same xs ys) × (order ≡ slice_cmp order_of xs ys)
+  all_compared xs ys us vs common order h e k = grind (arith, common_steps)
 
-module _ (xs ys ss ts us vs : List Text) (s t : Text) (common n : ℕ) (order here : Ordering) (h : IsCompared xs ys ss ts common order) (left : length ss ≡ n) (right : length ts ≡ n)
-    (e : ss ≡ us ++ s ∷ []) (f : ts ≡ vs ++ t ∷ []) (is : here ≡ text_order (percent_decode s) (percent_decode t)) where
-  pub one_more : (length us + 1 ≡ n) × (length vs + 1 ≡ n) × IsCompared xs ys us vs (cond (is_eq here) common (length us)) (ordering_then here order)
-  one_more =
-      grind (arith, nat_tests, length-append, common-last same_decoded us vs s t, order-before ss ts us vs s t order, is_eq-slice_cmp (percent_decode s) (percent_decode t))
+  module _ (decides : (s t : Text) → is_eq (order_of s t) ≡ same s t) (xs ys ss ts us vs : List Text) (s t : Text) (common n : ℕ) (order here : Ordering) (h : IsCompared xs ys ss ts common order)
+      (left : length ss ≡ n) (right : length ts ≡ n) (e : ss ≡ us ++ s ∷ []) (f : ts ≡ vs ++ t ∷ []) (is : here ≡ order_of s t) where
+    pub one_more : (length us + 1 ≡ n) × (length vs + 1 ≡ n) × IsCompared xs ys us vs (cond (is_eq here) common (length us)) (ordering_then here order)
+    one_more = grind (arith, nat_tests, length-append, common-last same us vs s t, order-before order_of ss ts us vs s t order, decides s t)
 
 pub ruleset compared = (nothing_compared, all_compared)
 

@@ -57,8 +57,6 @@ first-parts parents names closes = grind arith
 
 pub ruleset last_parts = (last-parts, length-last, length-parts, root_is)
 
-pub ruleset all_names = (append-nil, all_last, unread-sound, list_size)
-
 pub ruleset from_both = (back_gives, front_opened, front_remains, opened_before)
 
 pub ruleset surveyed = (first-parts, size-parts, size_most, all_last, unread-sound, root_is, kept_size, list_size)

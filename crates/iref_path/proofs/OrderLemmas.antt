@@ -1,11 +1,12 @@
 -- Lists that are compared from the back.
-use Rattle.std.proofs.Common.{length-append, ◌≡◌, ℕ, ◌-◌, List, [], ◌∷◌, ◌++◌, length, take, map, arith, true, false, Ordering}
-use Rattle.std.proofs.{lemmas.List.{map-append, take_min, length-map, take-map}, lemmas.Bool.Decides.{nat_tests}}
+use Rattle.std.proofs.Common.{length-append, ◌≡◌, ℕ, ◌-◌, List, [], ◌∷◌, ◌++◌, length, take, map, arith, true, false, refl, Ordering}
+use Rattle.std.proofs.{lemmas.List.{take_min}, lemmas.Bool.Decides.{nat_tests}}
 use Rattle.std.proofs.lemmas.Grind.{common_steps}
 use Rattle.std.specs.{Ordering.{bool_cmp, is_ne, nat_cmp, ordering_then}, Cmp.Lexicographic.{slice_cmp}}
 use Rattle.iref_grammar.specs.{Keys.{text_order}, Rules.{Text}, PathValue.{PathValue}}
 use Rattle.percent_encoding.specs.Percent.{percent_decode}
 use Rattle.iref_model.specs.{NormalList.{normal_segments}, PathKey.{path_key, path_key_cmp}}
+use Rattle.iref_path.specs.ItemOrders.{decoded_order}
 
 -- ---- the foremost difference decides
 
@@ -21,31 +22,30 @@ module _ {A : Type 0} (R : A → A → Ordering) where
   slice_cmp-cut (x ∷ xs) [] = grind (arith, nat_tests)
   slice_cmp-cut (x ∷ xs) (y ∷ ys) = grind (arith, nat_tests, slice_cmp-cut xs ys)
 
--- ---- two lists read from the back
+  -- lists that are read from the back
+  pub order-before : (xs ys us vs : List A) (s t : A) (order : Ordering) → length xs ≡ length ys → xs ≡ us ++ s ∷ [] → ys ≡ vs ++ t ∷ []
+      → (length us ≡ length vs) × (ordering_then (slice_cmp R xs ys) order ≡ ordering_then (slice_cmp R us vs) (ordering_then (R s t) order))
+  order-before xs ys us vs s t order h e f = grind (arith, length-append, slice_cmp-last)
+
+  -- what is known of two lists when their longer one has been cut
+  pub order-cut : (xs ys us vs : List A) (n m : ℕ) → n ≡ length xs → m ≡ length ys → us ≡ take (length xs - (n - m)) xs → vs ≡ take (length ys - (m - n)) ys
+      → (us ≡ take (length ys) xs) × (vs ≡ take (length xs) ys) × (ordering_then (slice_cmp R us vs) (nat_cmp n m) ≡ slice_cmp R xs ys)
+  order-cut xs ys us vs n m h k e f =
+      let left : us ≡ take (length ys) xs = grind (arith, take_min m xs) in
+      let right : vs ≡ take (length xs) ys = grind (arith, take_min n ys) in
+      (left, right, cc (slice_cmp-cut xs ys))
+
+-- ---- lists that are decoded
 
 abbrev pub decoded : List Text → List Text
 decoded = map percent_decode
 
-pub order-before : (xs ys us vs : List Text) (s t : Text) (order : Ordering) → length xs ≡ length ys → xs ≡ us ++ s ∷ [] → ys ≡ vs ++ t ∷ []
-    → (length us ≡ length vs) × (ordering_then (slice_cmp text_order (decoded xs) (decoded ys)) order ≡ ordering_then (slice_cmp text_order (decoded us) (decoded vs)) (ordering_then (text_order (percent_decode s) (percent_decode t)) order))
-order-before xs ys us vs s t order h e f = grind (arith, length-append, map-append, decoded, slice_cmp-last, length-map)
+pub slice_cmp-decoded : (xs ys : List Text) → slice_cmp decoded_order xs ys ≡ slice_cmp text_order (decoded xs) (decoded ys)
+slice_cmp-decoded [] ys = grind arith
+slice_cmp-decoded (x ∷ xs) [] = refl
+slice_cmp-decoded (x ∷ xs) (y ∷ ys) = grind (arith, slice_cmp-decoded xs ys)
 
--- what is known of two lists when their longer one has been cut
-pub order-cut : (xs ys us vs : List Text) (n m : ℕ) → n ≡ length xs → m ≡ length ys → us ≡ take (length xs - (n - m)) xs → vs ≡ take (length ys - (m - n)) ys
-    → (us ≡ take (length ys) xs) × (vs ≡ take (length xs) ys) × (ordering_then (slice_cmp text_order (decoded us) (decoded vs)) (nat_cmp n m) ≡ slice_cmp text_order (decoded xs) (decoded ys))
-order-cut xs ys us vs n m h k e f =
-    let left : us ≡ take (length ys) xs = grind (arith, take_min m xs) in
-    let right : vs ≡ take (length xs) ys = grind (arith, take_min n ys) in (
-      left,
-      right,
-      cc (
-        slice_cmp-cut text_order (decoded xs) (decoded ys),
-        take-map percent_decode (length ys) xs,
-        take-map percent_decode (length xs) ys,
-        length-map xs percent_decode,
-        length-map ys percent_decode,
-      ),
-    )
+pub ruleset of_decoded = (slice_cmp-decoded)
 
 -- ---- keys
 

@@ -172,8 +172,6 @@ length-guard guard list = grind (arith, append_assoc, length-append, nat_tests, 
 
 pub ruleset relative = (length-join, relative-spelled)
 
-pub ruleset in_utf8 = (path-utf8)
-
 pub ruleset joined = (length-join)
 
 pub ruleset stacked_sizes = (length-guard)

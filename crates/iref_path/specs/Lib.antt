@@ -22,6 +22,7 @@ pub mod NormalItems
 pub mod PathParts
 pub mod StepTexts
 pub mod MergedPaths
+pub mod ItemOrders
 pub mod StepsBetween
 pub mod ShortestPaths
 pub mod Bodies

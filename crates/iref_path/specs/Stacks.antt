@@ -3,19 +3,19 @@ use Rattle.std.specs.Prelude.{◌≡◌, ◌+◌, ◌<◌, ◌^◌, Bool, true, 
 use Rattle.std.specs.{Borrow.{Bor}, List.{join_with_byte}}
 use Rattle.iref_grammar.specs.{Grammar.{slash}, Rules.{Text}, PathValue.{PathValue}}
 use Rattle.iref_path.specs.{Pieces.{pieces_if_some, text_at}, NormalItems.{first_or}, Spelling.{each_closed}}
-use Rattle.iref_path.specs.{declared.normal_items.stack.Stack.{Stack}, declared.spell.StackedPath.{StackedPath}}
+use Rattle.iref_path.specs.declared.normal_items.stack.Stack.{Stack}
 
 -- these items, which were put the last first, in their order
 abbrev pub in_order : List (Bor Text) → List Text
 in_order items = reverse (map text_at items)
 
 -- what stands first, and the items with `/` between
-unfoldable pub stacked_text : StackedPath → Text
-stacked_text t = t.guard.now ++ join_with_byte slash (in_order t.items.now)
+unfoldable pub stacked_text : Stack → Text
+stacked_text t = t.guard.now ++ join_with_byte slash (in_order t.items.items)
 
 -- the size is that of the items, and can be counted with what stands first
-pub record IsStacked (t : StackedPath) : Type 0 where
-  pub size : t.size ≡ length (each_closed (in_order t.items.now))
+pub record IsStacked (t : Stack) : Type 0 where
+  pub size : t.size ≡ length (each_closed (in_order t.items.items))
   pub countable : length t.guard.now + t.size < 2 ^ 64
 
 -- The stack has what follows these items in a whole list: their size, the first of them, and the items themselves

@@ -53,7 +53,7 @@ impl<'a> CountedPath<'a> {
         let Some(segment) = self.segments.read() else {
             return "";
         };
-        if name_stays(segment, &mut self.open_parents) {
+        if name_stays(segment.as_bytes(), &mut self.open_parents) {
             segment
         } else {
             ""
@@ -69,7 +69,7 @@ impl<'a> CountedPath<'a> {
         ensures counted { IsCounted (segments_of self.old) (segments_of self.new) }
     {
         while let Some(segment) = self.segments.read() {
-            if name_stays(segment, &mut self.open_parents) {
+            if name_stays(segment.as_bytes(), &mut self.open_parents) {
                 return Some(segment);
             }
         }

@@ -1,8 +1,8 @@
 //! The text of a path, which is measured before it is written (RFC 3986 sections 5.2.3 and 5.2.4).
 
-ghost use Rattle.std.specs.Prelude.{◌||◌, ◌&&◌, ◌≡◌, ◌+◌, ◌*◌, ◌<◌, ◌^◌, ◌++◌, IfOk, Bool, Some, [], codes, false};
-ghost use Rattle.std.specs.{Prelude.{length, replicate, true, ℕ}, Fmt.{WritesOnOk}, String.{string_bytes}};
-ghost use Rattle.iref_grammar.specs.{alone, slash, read_path, spell_path, is_path, is_empty, Texts.{pieces_at}};
+ghost use Rattle.std.specs.Prelude.{◌||◌, ◌&&◌, ◌≡◌, ◌+◌, ◌*◌, ◌<◌, ◌^◌, ◌++◌, Bool, Some, [], codes, false};
+ghost use Rattle.std.specs.{Prelude.{length, replicate, true, ℕ}, Fmt.{WritesOnOk}};
+ghost use Rattle.iref_grammar.specs.{alone, slash, read_path, spell_path, is_empty, Texts.{pieces_at}};
 ghost use Rattle.iref_model.specs.{Guard.{guarded}, PathSteps.{normalized}};
 ghost use Rattle.iref_parse.specs.Dots.{has_dot_segment};
 ghost use Rattle.iref_path.specs.Bodies.{after_front, parents_then};
@@ -12,18 +12,18 @@ ghost use Rattle.iref_path.specs.{Spelling.{each_closed}, NormalItems.{IsSound, 
 ghost use Rattle.iref_path.specs.StepsBetween.{path_between};
 ghost use Rattle.iref_path.specs.Spelling as spelling;
 
+use crate::compare_lists::Decoded;
 use crate::measured_body::Body;
 use crate::normal_items::{NormalItems, survey_items};
-use crate::relative_steps::{Decoded, behind_roots, first_step, items_between, steps_apart};
+use crate::relative_steps::{
+    behind_roots, first_step, items_between, kept_directory, some_items, steps_apart,
+};
 use crate::segments::{first_segment, split_root, without_last};
 use crate::spell::{guard_in, measure};
-use iref_grammar::chars::CharSet;
 use iref_grammar::context::PathContext;
 use iref_parse::dots::has_dots;
-use iref_splice::Memory;
 use iref_splice::backward::Backward;
 use iref_splice::unwritten::Unwritten;
-use std::alloc::Global;
 use std::fmt;
 
 // Nothing stands before the path.
@@ -214,7 +214,8 @@ impl<'a> MeasuredPath<'a> {
             let (up, path) = steps_apart::<Decoded>(base, path);
             return MeasuredPath::up(up, path);
         }
-        MeasuredPath::relative(items_between(base, path))
+        let directory = kept_directory(true, base);
+        MeasuredPath::relative(items_between::<Decoded>(directory, some_items(path)))
     }
 
     /// How many bytes the text has.
@@ -224,19 +225,6 @@ impl<'a> MeasuredPath<'a> {
         ensures { result ≡ length (measured_text self.now) }
     {
         self.guard.len() + self.body.len()
-    }
-
-    /// The text of a path. The room is taken once; out of memory, it returns an `Err`.
-    #[tactic(auto, using(crate::proofs::SpellLemmas::in_utf8))]
-    pub fn to_text<C: CharSet>(self, alloc: Global) -> Result<String, Memory>
-        requires measured { IsMeasured self }
-        requires path { is_path C.tests (measured_text self) ≡ true }
-        ensures { IfOk result (λ text. string_bytes text ≡ measured_text self.entry) }
-    {
-        let bytes = self.to_bytes(alloc)?;
-        // What spells a path is text, so no byte is read again.
-        let text = unsafe { String::from_utf8_unchecked(bytes) };
-        Ok(text)
     }
 
     /// Writes the text to a formatter, from the front. Items that are read from the back are read once

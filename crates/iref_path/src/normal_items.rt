@@ -78,23 +78,12 @@ fn is_one_empty(parents: usize, names: usize, first: &str, closes: bool) -> bool
     parents == 0 && first.is_empty() && names + usize::from(closes) == 1
 }
 
-// The first of a number of `..` and of names that begin with this one.
-#[inline(always)]
-fn first_item(parents: usize, name: &str) -> &str
-    ensures { result.now ≡ (if parents == 0 then name.now else codes "..") }
-{
-    if parents == 0 { name } else { ".." }
-}
-
 // Whether a segment may be `..`.
 #[tactic(auto, using(crate::proofs::NamedLemmas::without_parents))]
 fn may_have_parents(segments: Option<&str>) -> bool
     ensures { result ≡ false → list_any is_dot_dot (pieces_if_some segments.entry) ≡ false }
 {
-    match segments {
-        Some(text) => has_dot_pair(text.as_bytes()),
-        None => false,
-    }
+    has_dot_pair(segments.unwrap_or("").as_bytes())
 }
 
 // How many names follow the last `..` among the segments, and the text of those behind it.
@@ -176,7 +165,7 @@ pub fn survey_items<'a>(absolute: bool, front: Option<&'a str>, back: Option<&'a
     Survey {
         items: NormalItems::unread(parents, names, front, back, closes),
         size: 3 * parents + found.size + usize::from(closes),
-        first: first_item(parents, found.first),
+        first: if parents == 0 { found.first } else { ".." },
     }
 }
 
@@ -188,17 +177,6 @@ impl<'a> NormalItems<'a> {
     {
         let (absolute, segments) = split_root(path);
         survey_items(absolute, None, segments).items
-    }
-
-    /// The names that stay of the segments of a text.
-    #[tactic(auto, using(crate::proofs::MergedPathLemmas::all_names), unfolding(crate::specs::NormalItems::normal_left))]
-    pub(crate) fn names(segments: Option<&'a str>) -> Self
-        requires { length (each_closed (pieces_if_some segments)) < 2 ^ 64 }
-        ensures items { normal_left result ≡ staying_before (pieces_if_some segments.entry) 0 }
-        ensures sound { IsSound result }
-    {
-        let names = survey_names(None, segments).items.names_left;
-        NormalItems::unread(0, names, None, segments, false)
     }
 
     /// One empty item.
@@ -397,7 +375,7 @@ impl<'a> NormalItems<'a> {
         while let Some(text) = self.back {
             let (rest, segment) = last_segment(text);
             self.back = rest;
-            if name_stays(segment, &mut self.open_parents) {
+            if name_stays(segment.as_bytes(), &mut self.open_parents) {
                 return Some(segment);
             }
         }

@@ -12,20 +12,13 @@ ghost use Rattle.iref_grammar.specs.{read_path, slash, text_order, Texts.{pieces
 ghost use Rattle.iref_model.specs.{is_dot_dot, normal_segments, path_key, path_key_cmp};
 ghost use Rattle.iref_path.specs.{Named.{begins_with_dot_slash, named, rank}, Pieces.{pieces_if_some}};
 
-use crate::compare_lists::{compare_lists, items_cmp};
+use crate::compare_lists::{Decoded, Sameness, compare_lists};
 use crate::normal_items::NormalItems;
 use crate::segments::{behind_directory, first_segment, split_root};
 use iref_parse::cut::strip_mark;
 use iref_parse::decoded::kept_front;
 use iref_parse::dots::{has_dot_pair, has_dots};
 use std::cmp::Ordering;
-
-/// Whether the path is absolute.
-pub(crate) fn is_absolute(path: &str) -> bool
-    ensures { result ≡ (read_path path.now).absolute }
-{
-    split_root(path).0
-}
 
 // What follows the `./` that a text begins with.
 #[inline(always)]
@@ -80,7 +73,7 @@ fn compare_names(mut left: Option<&str>, mut right: Option<&str>) -> Ordering
         };
         let (name, names) = first_name(text);
         let (other, others) = first_name(other_text);
-        let order = items_cmp(name, other);
+        let order = Decoded::compare(name, other);
         if order.is_ne() {
             return order;
         }
@@ -134,7 +127,7 @@ fn compare_segments<'a>(mut left: &'a str, mut right: &'a str) -> Ordering
         }
         let (name, names) = first_segment(left);
         let (other, others) = first_segment(right);
-        let order = items_cmp(name, other);
+        let order = Decoded::compare(name, other);
         if order.is_ne() {
             return order;
         }
@@ -170,12 +163,13 @@ fn compare_without_parents(left: &str, right: &str) -> Option<Ordering>
 }
 
 // The order of the normal lists of two paths.
+#[tactic(auto, using(crate::proofs::OrderLemmas::of_decoded))]
 fn compare_normal(a: &str, b: &str) -> Ordering
     ensures { result ≡ slice_cmp text_order
         (map percent_decode (normal_segments (read_path a.now)))
         (map percent_decode (normal_segments (read_path b.now))) }
 {
-    compare_lists(NormalItems::new(a), NormalItems::new(b)).1
+    compare_lists::<Decoded>(NormalItems::new(a), NormalItems::new(b)).1
 }
 
 /// The order of the paths of two texts: relative before absolute, then segment by segment, the
@@ -184,11 +178,13 @@ fn compare_normal(a: &str, b: &str) -> Ordering
 pub fn path_texts_cmp(a: &str, b: &str) -> Ordering
     ensures { result ≡ path_key_cmp (path_key (read_path a.now)) (path_key (read_path b.now)) }
 {
-    let flags = is_absolute(a).cmp(&is_absolute(b));
+    let (absolute, left) = split_root(a);
+    let (other_absolute, right) = split_root(b);
+    let flags = absolute.cmp(&other_absolute);
     if flags.is_ne() {
         return flags;
     }
-    if let (Some(left), Some(right)) = (split_root(a).1, split_root(b).1) {
+    if let (Some(left), Some(right)) = (left, right) {
         let (left, right) = behind_directory(left, right);
         if let Some(order) = compare_without_parents(left, right) {
             return order;

@@ -2,51 +2,19 @@
 //! with is passed over.
 
 ghost use Rattle.std.specs.Prelude.{◌≡◌, ◌+◌, ◌*◌, ◌^◌, ◌<◌, ◌≤◌, ◌++◌, IfNone, IfSome, [], codes, length, replicate};
-ghost use Rattle.std.specs.Prelude.{Bool, bytes_eq, false};
-ghost use Rattle.iref_grammar.specs.{slash, Rules.{Text}, Texts.{all_but_last, pieces_at}};
+ghost use Rattle.std.specs.Prelude.{false};
+ghost use Rattle.iref_grammar.specs.{slash, Texts.{all_but_last, pieces_at}};
 ghost use Rattle.iref_model.specs.{normal_segments, read_path, Relative.{directory_names, steps_between}};
-ghost use Rattle.iref_model.specs.PathSuffix.{same_decoded};
+ghost use Rattle.iref_model.specs.NormalList.{kept_segments};
 ghost use Rattle.iref_parse.specs.Dots.{has_dot_segment};
-ghost use Rattle.iref_path.specs.NormalItems.{IsSound, first_or, normal_left};
-ghost use Rattle.iref_path.specs.StepsBetween.{text_steps, text_steps_with, with_last};
+ghost use Rattle.iref_path.specs.{NormalItems.{IsSound, first_or, normal_left}, Spelling.{each_closed}};
+ghost use Rattle.iref_path.specs.ShortestPaths.{directory_at};
+ghost use Rattle.iref_path.specs.StepsBetween.{steps_with, text_steps, text_steps_with, with_last};
 
-use crate::compare_lists::compare_lists;
+use crate::compare_lists::{Sameness, compare_lists};
 use crate::normal_items::NormalItems;
 use crate::segments::{first_segment, slash_count, split_root, without_last};
-use iref_parse::decoded::decoded_eq;
 use iref_parse::dots::has_dots;
-
-/// When two names are the same.
-pub(crate) trait Sameness {
-    /// The test.
-    ghost same: { Text → Text → Bool };
-
-    /// Whether two names are the same.
-    fn are_same(name: &str, other: &str) -> bool
-        ensures { result ≡ same name.now other.now };
-}
-
-/// Names that decode to the same bytes.
-pub(crate) struct Decoded;
-
-/// Names of the same characters.
-pub(crate) struct ByText;
-
-impl Sameness for Decoded {
-    ghost same = { same_decoded };
-
-    fn are_same(name: &str, other: &str) -> bool {
-        decoded_eq(name, other)
-    }
-}
-
-impl Sameness for ByText {
-    ghost same = { bytes_eq };
-
-    fn are_same(name: &str, other: &str) -> bool {
-        name == other
-    }
-}
 
 // What follows the first segments of both, where these are the same and neither is the last.
 #[tactic(auto, using(crate::proofs::RelativeStepLemmas::apart))]
@@ -121,13 +89,14 @@ pub(crate) fn behind_roots<'a>(base: &'a str, path: &'a str) -> Option<(&'a str,
     Some((base, path))
 }
 
-// The names that stay of a path without its last segment.
-fn directory_names(path: &str) -> NormalItems<'_>
-    ensures items { normal_left result ≡ directory_names (read_path path.now) }
-    ensures fewer { length (normal_left result) ≤ length path.now + 1 }
+/// What is kept of a base's path without its last segment, with a flag of its own.
+pub(crate) fn kept_directory(absolute: bool, base: &str) -> NormalItems<'_>
+    ensures items { normal_left result
+        ≡ kept_segments (directory_at absolute (read_path base.now)) }
+    ensures fewer { length (normal_left result) ≤ length base.now + 1 }
     ensures sound { IsSound result }
 {
-    NormalItems::names(without_last(split_root(path).1))
+    NormalItems::kept(absolute, without_last(split_root(base).1))
 }
 
 // The items of a path, or an empty one where there are none.
@@ -145,17 +114,22 @@ pub(crate) fn some_items(path: &str) -> NormalItems<'_>
     }
 }
 
-/// The steps from the directory of a base to a path: up to their common beginning, and down.
-#[tactic(auto, using(std::proofs::lemmas::Grind::common_steps, crate::proofs::StepsBetweenLemmas::between))]
-pub(crate) fn items_between<'a>(base: &str, path: &'a str) -> NormalItems<'a>
-    requires { 3 * length base.now + length path.now + 16 < 2 ^ 64 }
-    ensures items { normal_left result ≡ steps_between
-        (directory_names (read_path base.now)) (normal_segments (read_path path.now)) }
-    ensures depth { length (directory_names (read_path base.now)) ≤ length base.now + 1 }
+/// The steps from a directory to the items of a path: up to their common beginning, and down.
+#[tactic(auto, using(crate::proofs::StepsBetweenLemmas::between))]
+pub(crate) fn items_between<'a, S: Sameness>(
+    directory: NormalItems<'_>,
+    items: NormalItems<'a>,
+) -> NormalItems<'a>
+    requires directory { IsSound directory }
+    requires items { IsSound items }
+    requires some { 0 < length (normal_left items) }
+    requires room { 3 * length (normal_left directory)
+        + length (each_closed (normal_left items)) + 5 < 2 ^ 64 }
+    ensures items { normal_left result
+        ≡ steps_with S.same (normal_left directory.entry) (normal_left items.entry) }
+    ensures room { length (each_closed (normal_left result)) + 4 < 2 ^ 64 }
     ensures sound { IsSound result }
 {
-    let directory = directory_names(base);
-    let items = some_items(path);
-    let (common, _) = compare_lists(directory, items.without_last(1));
+    let (common, _) = compare_lists::<S>(directory, items.without_last(1));
     items.last_after(directory.len() - common, items.len() - common)
 }

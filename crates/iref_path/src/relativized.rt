@@ -2,60 +2,24 @@
 //! sections 4.2 and 5.2.3).
 
 ghost use Rattle.std.specs.Prelude.{◌≡◌, ◌+◌, ◌*◌, ◌^◌, ◌<◌, ◌≤◌, ◌++◌, ◌&&◌, ◌||◌, not, IfSome, codes};
-ghost use Rattle.std.specs.{List.{common_prefix_len}, Prelude.{bytes_eq, false, is_some, length, nat_le, replicate}};
+ghost use Rattle.std.specs.Prelude.{false, is_some, length, nat_le, replicate};
 ghost use Rattle.iref_grammar.specs.{slash, alone, read_path, spell_path, segments_of};
 ghost use Rattle.iref_grammar.specs.Texts.{all_but_last, is_empty, pieces_at};
 ghost use Rattle.iref_model.specs.{Guard.{guarded}, normal_segments, NormalList.{count_parents, kept_segments}};
 ghost use Rattle.iref_parse.specs.Dots.{has_dot_segment};
 ghost use Rattle.iref_path.specs.MeasuredPaths.{IsMeasured, measured_text};
 ghost use Rattle.iref_path.specs.{NormalItems.{IsSound, normal_left}, Spelling.{each_closed}};
-ghost use Rattle.iref_path.specs.{ShortestPaths.{directory_of}, StepsBetween.{text_steps_by_text}};
-ghost use Rattle.iref_model.specs.Relativized.{is_climb, path_from, shortened, steps_by_text};
+ghost use Rattle.iref_path.specs.ShortestPaths.{directory_at, directory_of};
+ghost use Rattle.iref_model.specs.Relativized.{is_climb, path_from, shortened};
 ghost use Rattle.iref_model.specs.RelativizedTests.{is_reachable_from};
 
+use crate::compare_lists::ByText;
 use crate::measured::MeasuredPath;
 use crate::normal_items::NormalItems;
-use crate::relative_steps::{ByText, some_items, steps_apart};
-use crate::segments::{split_root, without_last};
+use crate::relative_steps::{items_between, kept_directory, some_items, steps_apart};
+use crate::segments::split_root;
 use iref_parse::cut::strip_mark;
 use iref_parse::dots::has_dots;
-
-// How many items two lists of this number of items each have in common from the front.
-fn common_of_same_length(mut left: NormalItems<'_>, mut right: NormalItems<'_>, len: usize) -> usize
-    requires left { IsSound left }
-    requires right { IsSound right }
-    requires left_len { length (normal_left left) ≡ len }
-    requires right_len { length (normal_left right) ≡ len }
-    ensures { result
-        ≡ common_prefix_len bytes_eq (normal_left left.entry) (normal_left right.entry) }
-{
-    let mut common = len;
-    let mut index = len;
-    while let Some(item) = left.next_back() {
-        let Some(other) = right.next_back() else {
-            return common;
-        };
-        index -= 1;
-        if item != other {
-            common = index;
-        }
-    }
-    common
-}
-
-// How many items two lists have in common from the front, each pair the same text.
-fn common_items(left: NormalItems<'_>, right: NormalItems<'_>) -> usize
-    requires left { IsSound left }
-    requires right { IsSound right }
-    ensures { result
-        ≡ common_prefix_len bytes_eq (normal_left left.entry) (normal_left right.entry) }
-{
-    let left_len = left.len();
-    let right_len = right.len();
-    let left = left.without_last(left_len.saturating_sub(right_len));
-    let right = right.without_last(right_len.saturating_sub(left_len));
-    common_of_same_length(left, right, left_len.min(right_len))
-}
 
 // The text of a number of `..` and the segments of a text, of which none begins with a dot. It is
 // shortened: `..` stands for `../`, and `.` for the empty segment alone.
@@ -97,47 +61,6 @@ fn of_item_steps(items: NormalItems<'_>) -> MeasuredPath<'_>
     MeasuredPath::relative(items)
 }
 
-// What is kept of a base's path without its last segment, with a flag of its own.
-fn kept_directory(absolute: bool, base: &str) -> NormalItems<'_>
-    ensures items { normal_left result ≡ kept_segments (record {
-      absolute = absolute;
-      segments = all_but_last (read_path base.now).segments;
-    }) }
-    ensures fewer { length (normal_left result) ≤ length base.now + 1 }
-    ensures sound { IsSound result }
-{
-    NormalItems::kept(absolute, without_last(split_root(base).1))
-}
-
-// The steps from a base's directory to a path: up to their common beginning, and down. There are none
-// where the directory has more leading `..`.
-#[tactic(auto, using(std::proofs::lemmas::Grind::common_steps, crate::proofs::StepsBetweenLemmas::between))]
-fn item_steps<'a>(absolute: bool, base: &str, path: &'a str) -> Option<NormalItems<'a>>
-    requires { 3 * length base.now + length path.now + 16 < 2 ^ 64 }
-    ensures some { is_some result ≡ nat_le
-        (count_parents (kept_segments (record {
-          absolute = absolute;
-          segments = all_but_last (read_path base.now).segments;
-        })))
-        (count_parents (normal_segments (read_path path.now))) }
-    ensures items { IfSome result (λ items. normal_left items ≡ steps_by_text
-        (kept_segments (record {
-          absolute = absolute;
-          segments = all_but_last (read_path base.now).segments;
-        }))
-        (normal_segments (read_path path.now))) }
-    ensures room { IfSome result (λ items. length (each_closed (normal_left items)) + 4 < 2 ^ 64) }
-    ensures sound { IfSome result IsSound }
-{
-    let directory = kept_directory(absolute, base);
-    let items = some_items(path);
-    if directory.parents() > items.parents() {
-        return None;
-    }
-    let common = common_items(directory, items.without_last(1));
-    Some(items.last_after(directory.len() - common, items.len() - common))
-}
-
 // Whether the path is absolute, and the text of its segments, which is empty where there are none.
 fn behind_root(path: &str) -> (bool, &str)
     ensures path { read_path path.now
@@ -157,36 +80,24 @@ fn is_rooted(has_authority: bool, absolute: bool, below: &str) -> bool
     absolute | has_authority & below.is_empty()
 }
 
-// The path from a base's directory to a path, where segments may begin with a dot.
+// The path from a base's directory to a path, where segments may begin with a dot. There is none where
+// the directory has more leading `..`. Inlined, it would take the way of most paths a tenth more.
+#[inline(never)]
 fn by_items<'a>(absolute: bool, base: &str, path: &'a str) -> Option<MeasuredPath<'a>>
     requires { 3 * length base.now + length path.now + 16 < 2 ^ 64 }
     ensures some { is_some result ≡ nat_le
-        (count_parents (kept_segments (record {
-          absolute = absolute;
-          segments = all_but_last (read_path base.now).segments;
-        })))
+        (count_parents (kept_segments (directory_at absolute (read_path base.now))))
         (count_parents (normal_segments (read_path path.now))) }
-    ensures text { IfSome result (λ steps. measured_text steps ≡ spell_path (path_from
-        (record { absolute = absolute; segments = all_but_last (read_path base.now).segments })
-        (read_path path.now))) }
+    ensures text { IfSome result (λ steps. measured_text steps ≡ spell_path
+        (path_from (directory_at absolute (read_path base.now)) (read_path path.now))) }
     ensures measured { IfSome result IsMeasured }
 {
-    let items = item_steps(absolute, base, path)?;
-    Some(of_item_steps(items))
-}
-
-// The path from the directory of a text of segments to another text, where none begins with a dot.
-fn by_texts<'a>(below: &'a str, rest: &'a str) -> MeasuredPath<'a>
-    requires dotless { has_dot_segment rest.now ≡ false }
-    requires room { 3 * length below.now + length rest.now + 8 < 2 ^ 64 }
-    ensures text { measured_text result ≡ spell_path (guarded alone (record {
-      absolute = false;
-      segments = shortened (text_steps_by_text below.now rest.now);
-    })) }
-    ensures measured { IsMeasured result }
-{
-    let (up, rest) = steps_apart::<ByText>(below, rest);
-    of_text_steps(up, rest)
+    let directory = kept_directory(absolute, base);
+    let items = some_items(path);
+    if directory.parents() > items.parents() {
+        return None;
+    }
+    Some(of_item_steps(items_between::<ByText>(directory, items)))
 }
 
 impl<'a> MeasuredPath<'a> {
@@ -211,7 +122,8 @@ impl<'a> MeasuredPath<'a> {
         if has_dots(below.as_bytes()) | has_dots(rest.as_bytes()) {
             return by_items(absolute, base, path);
         }
-        Some(by_texts(below, rest))
+        let (up, rest) = steps_apart::<ByText>(below, rest);
+        Some(of_text_steps(up, rest))
     }
 
     /// The text of a relative path whose normal list is some `..` and an empty segment, without its last

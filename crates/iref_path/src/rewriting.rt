@@ -12,7 +12,8 @@ ghost use Rattle.iref_path.specs.{Spelling.{each_closed}, Written.{WritesBefore}
 use crate::normal_items::{leading_parents, survey_items};
 use crate::segments::split_root;
 use crate::spell::guard_in;
-use crate::staying_names::bytes_stay;
+use crate::staying_names::name_stays;
+use crate::steps::EMPTY;
 use iref_grammar::context::PathContext;
 use iref_splice::bytes::replace;
 use iref_splice::change::{Change, Span};
@@ -56,7 +57,7 @@ fn move_segment(
         ≡ open_before (slice_range bytes.old segment segment_end ∷ []) open_parents.old }
     ensures unread { take segment bytes.new ≡ take segment bytes.old }
 {
-    if !bytes_stay(&bytes[segment..segment_end], open_parents) {
+    if !name_stays(&bytes[segment..segment_end], open_parents) {
         return end;
     }
     bytes[end - 1] = b'/';
@@ -130,7 +131,7 @@ fn write_list(bytes: &mut [u8], absolute: bool) -> usize
     let len = bytes.len();
     let last = segment_before(bytes, len + 1);
     let mut open_parents: usize = 0;
-    let stays = bytes_stay(&bytes[last..], &mut open_parents);
+    let stays = name_stays(&bytes[last..], &mut open_parents);
     // A name that comes last stays where it is.
     let end = if stays { last } else { len };
     let (start, open_parents) = move_names(bytes, last, open_parents, end);
@@ -173,13 +174,7 @@ fn cut(bytes: &mut Vec<u8>, within: Range<usize>)
     requires in_bounds { within.end ≤ vec_len bytes.old }
     ensures { bytes.new.items ≡ splice bytes.old.items within.start within.end [] }
 {
-    let change = Change {
-        within,
-        first: "",
-        middle: "",
-        close: "",
-    };
-    replace(bytes, change).unwrap();
+    replace(bytes, Change { within, ..EMPTY }).unwrap();
 }
 
 /// Replaces the path that is at `at` by what stands first and the path's normal list, and returns

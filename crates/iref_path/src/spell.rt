@@ -150,37 +150,15 @@ fn put_stacked<O: Backward>(out: &mut O, items: &[&str])
     }
 }
 
-// The text of a normal path whose items are on a stack, not written yet.
-#[derive(Clone, Copy)]
-struct StackedPath<'a> {
-    // The root, and `./` where it is needed.
-    guard: &'static str,
-    // The last first.
-    items: &'a [&'a str],
-    // How many bytes the items have with a `/` after each.
-    size: usize,
-}
-
-impl StackedPath<'_> {
-    // How many bytes the text has.
-    #[tactic(auto, using(crate::proofs::SpellLemmas::stacked_sizes), unfolding(crate::specs::Stacks::stacked_text))]
-    fn len(&self) -> usize
-        requires { IsStacked self.now }
-        ensures { result ≡ length (stacked_text self.now) }
-    {
-        self.guard.len() + self.size.saturating_sub(1)
-    }
-}
-
-impl Unwritten for StackedPath<'_> {
+impl Unwritten for Stack<'_> {
     ghost text = { stacked_text };
 
     ghost is_sound = { IsStacked };
 
-    #[tactic(auto, unfolding(crate::specs::Stacks::stacked_text))]
+    #[tactic(auto, using(crate::proofs::SpellLemmas::stacked_sizes), unfolding(crate::specs::Stacks::stacked_text))]
     fn put<O: Backward>(&self, out: &mut O) {
-        if !out.put_len(self.len()) {
-            put_stacked(out, self.items);
+        if !out.put_len(self.guard.len() + self.size.saturating_sub(1)) {
+            put_stacked(out, self.items.as_slice());
             out.put(self.guard.as_bytes());
         }
     }
@@ -206,13 +184,8 @@ fn normal_bytes(
         let mut stack = Stack::new(alloc);
         stack.read(absolute, segments);
         if stack.is_whole {
-            let guard = guard_in(context, absolute, stack.size, stack.first);
-            let stacked = StackedPath {
-                guard,
-                items: stack.items.as_slice(),
-                size: stack.size,
-            };
-            return stacked.to_bytes(alloc);
+            stack.guard = guard_in(context, absolute, stack.size, stack.first);
+            return stack.to_bytes(alloc);
         }
     }
     MeasuredPath::of_segments(context, absolute, None, segments).to_bytes(alloc)

@@ -12,8 +12,8 @@ use iref_grammar::chars::CharSet;
 use iref_grammar::context::PathContext;
 use iref_splice::change::Change;
 
-// Nothing is taken out, and nothing comes in.
-const EMPTY: Change<'static> = Change {
+/// Nothing is taken out, and nothing comes in.
+pub(crate) const EMPTY: Change<'static> = Change {
     within: 0..0,
     first: "",
     middle: "",

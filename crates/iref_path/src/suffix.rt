@@ -6,12 +6,13 @@ ghost use Rattle.iref_grammar.specs.{PathValue.{read_path, spell_path}, Tests.{i
 ghost use Rattle.iref_model.specs.PathSuffix.{path_suffix};
 ghost use Rattle.iref_path.specs.{Spelling.{each_closed}, Suffixes.{items_path}, NormalItems.{IsSound, normal_left}};
 
-use crate::compare_lists::compare_lists;
+use crate::compare_lists::{Decoded, compare_lists};
 use crate::measured::MeasuredPath;
 use crate::normal_items::NormalItems;
-use crate::order::is_absolute;
+use crate::segments::split_root;
 use iref_grammar::chars::CharSet;
 use iref_splice::Memory;
+use iref_splice::unwritten::Unwritten;
 use std::alloc::Global;
 
 // The items of the path after those of the prefix, if these are a beginning of them, and both paths
@@ -23,12 +24,12 @@ fn rest_after<'a>(prefix: &str, path: &'a str) -> Option<NormalItems<'a>>
     ensures sound { IfSome result (λ rest. IsSound rest) }
     ensures room { IfSome result (λ rest. length (each_closed (normal_left rest)) + 4 < 2 ^ 64) }
 {
-    if is_absolute(prefix) != is_absolute(path) {
+    if split_root(prefix).0 != split_root(path).0 {
         return None;
     }
     let start = NormalItems::new(prefix);
     let items = NormalItems::new(path);
-    let (common, _) = compare_lists(start, items);
+    let (common, _) = compare_lists::<Decoded>(start, items);
     let len = start.len();
     if common < len {
         return None;
@@ -59,6 +60,8 @@ pub fn suffix_text<C: CharSet>(
     let Some(rest) = rest_after(prefix, path) else {
         return Ok(None);
     };
-    let text = MeasuredPath::relative(rest).to_text::<C>(alloc)?;
+    let bytes = MeasuredPath::relative(rest).to_bytes(alloc)?;
+    // What spells a path is text, so no byte is read again.
+    let text = unsafe { String::from_utf8_unchecked(bytes) };
     Ok(Some(text))
 }

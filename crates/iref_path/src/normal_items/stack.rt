@@ -23,6 +23,8 @@ pub struct Stack<'a> {
     pub first: &'a str,
     /// Whether each item found room.
     pub is_whole: bool,
+    /// The root, and `./` where it is needed, which are to stand before them.
+    pub guard: &'static str,
 }
 
 impl<'a> Stack<'a> {
@@ -36,6 +38,7 @@ impl<'a> Stack<'a> {
             size: 0,
             first: "",
             is_whole: true,
+            guard: "",
         }
     }
 

@@ -1,22 +1,19 @@
-use Rattle.std.proofs.Common.{ap, arith, length}
-use Rattle.iref_grammar.specs.PathValue.{read_path}
-use Rattle.iref_model.specs.NormalList.{normal_segments}
-use Rattle.iref_path.proofs.SpellLemmas.{list_size, normal_size-text}
-use Rattle.iref_path.proofs.StepsBetweenLemmas.{fewer_without_last, length-with_last}
+use Rattle.std.proofs.Common.{arith, ap, codes, length, replicate, ◌-◌}
+use Rattle.iref_path.specs.{NormalItems.{normal_left}, Spelling.{each_closed}, StepsBetween.{last_ones}}
+use Rattle.iref_path.proofs.{SpellLemmas.{size-append, size-parents}, SuffixLemmas.{size-drop}}
 use Rattle.iref_path.proofs.relative_steps.items_between.Goals as goal
 
-pub last_after-requires-clause-countable : goal.last_after-requires-clause-countable
-last_after-requires-clause-countable c =
-    let list = normal_segments (read_path c.args.path.now) in
+pub returns-clause-room : goal.returns-clause-room
+returns-clause-room g c =
+    let list = normal_left c.args.items in
+    let up = c.len.result - c.compare_lists-common.result.0 in
+    let count = c.len-2.result - c.compare_lists-common.result.0 in
     omega (
       arith,
-      c.requires,
-      c.directory_names-directory.ensures.fewer,
+      c.requires.room,
+      ap (λ l. length (each_closed l)) c.last_after.ensures.items,
+      size-append (replicate up (codes "..")) (last_ones count list),
+      size-parents up,
+      size-drop (length list - count) list,
       c.len.ensures,
-      c.len-2.ensures,
-      ap length c.some_items-items.ensures.items,
-      length-with_last list,
-      fewer_without_last list,
-      list_size list,
-      normal_size-text (read_path c.args.path.now).absolute c.args.path.now,
     )

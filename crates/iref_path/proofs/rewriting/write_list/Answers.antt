@@ -5,14 +5,14 @@ use Rattle.iref_path.proofs.rewriting.write_list.Goals as goal
 
 pub write_parents-requires-clause-room : goal.write_parents-requires-clause-room
 write_parents-requires-clause-room c =
-    let text = listed c.args.absolute c.args.bytes.now _ c.if-stays.end c.bytes_stay-stays.new.open_parents c.bytes_stay-stays.result
-    c.segment_before-last.ensures.pieces c.bytes_stay-stays.ensures.stays c.bytes_stay-stays.ensures.counted (elim c.if-stays.branch [ then-stays w ↦ grind arith | else-stays w ↦ grind arith ]) in
+    let text = listed c.args.absolute c.args.bytes.now _ c.if-stays.end c.name_stays-stays.new.open_parents c.name_stays-stays.result
+    c.segment_before-last.ensures.pieces c.name_stays-stays.ensures.stays c.name_stays-stays.ensures.counted (elim c.if-stays.branch [ then-stays w ↦ grind arith | else-stays w ↦ grind arith ]) in
     grind (arith, length-append, length-drop)
 
 pub returns : goal.returns
 returns c =
-    let text = listed c.args.absolute c.args.bytes.now _ c.if-stays.end c.bytes_stay-stays.new.open_parents c.bytes_stay-stays.result
-    c.segment_before-last.ensures.pieces c.bytes_stay-stays.ensures.stays c.bytes_stay-stays.ensures.counted (elim c.if-stays.branch [ then-stays w ↦ grind arith | else-stays w ↦ grind arith ]) in
+    let text = listed c.args.absolute c.args.bytes.now _ c.if-stays.end c.name_stays-stays.new.open_parents c.name_stays-stays.result
+    c.segment_before-last.ensures.pieces c.name_stays-stays.ensures.stays c.name_stays-stays.ensures.counted (elim c.if-stays.branch [ then-stays w ↦ grind arith | else-stays w ↦ grind arith ]) in
     record {
       range = grind (arith, length-append, length-drop);
       written = grind (arith, nothing_behind);

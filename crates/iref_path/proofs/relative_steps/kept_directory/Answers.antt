@@ -1,7 +1,7 @@
 use Rattle.std.proofs.Common.{length, arith, ap}
 use Rattle.iref_path.specs.{Pieces.{pieces_if_some}, Spelling.{each_closed}}
 use Rattle.iref_path.proofs.{ClimbLemmas.{kept-length}, SpellLemmas.{last_size, read_size}}
-use Rattle.iref_path.proofs.relativized.kept_directory.Goals as goal
+use Rattle.iref_path.proofs.relative_steps.kept_directory.Goals as goal
 
 pub kept-requires : goal.kept-requires
 kept-requires c =
