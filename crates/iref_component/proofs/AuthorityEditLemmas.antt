@@ -1,6 +1,6 @@
 -- A part of an authority replaced in its text.
-use Rattle.std.proofs.Common.{◌≡◌, ◌+◌, true, [], ◌∷◌, ◌++◌, length, sym, ◌∙◌, length-append, append_assoc, arith, rules, subst, lit<, Option, None}
-use Rattle.std.proofs.{lemmas.Grind.{common_steps}, lemmas.List.{places, same_lists}}
+use Rattle.std.proofs.Common.{◌≡◌, ℕ, ◌+◌, Bool, true, [], ◌∷◌, ◌++◌, length, sym, ◌∙◌, length-append, append_assoc, arith, rules, subst, lit<, None, refl, ap}
+use Rattle.std.proofs.{lemmas.Grind.{common_steps}, lemmas.List.{places, same_lists, append-nil}}
 use Rattle.std.proofs.lemmas.Str.{IsCharBoundary-start, IsCharBoundary-end, IsCharBoundary-at_seam}
 use Rattle.std.specs.{List.{splice}, Str.{IsCharBoundary, IsUtf8}}
 use Rattle.iref_splice.specs.Changes.{IsWithin, with_mark}
@@ -11,21 +11,15 @@ use Rattle.iref_grammar.proofs.AuthorityLemmas.{read_authority-spelled}
 use Rattle.iref_grammar.proofs.AuthorityRuleLemmas.{authority_read, Decides-has_authority_parts}
 use Rattle.iref_grammar.proofs.SliceLemmas.{mark_boundary}
 use Rattle.iref_model.specs.AuthoritySteps.{with_user_info, with_host, with_port}
-use Rattle.iref_component.specs.AuthorityTexts.{SpellsAuthority, authority_is_text}
+use Rattle.iref_component.specs.AuthorityTexts.{SpellsAuthority, IsRangeOf, authority_is_text}
 use Rattle.iref_splice.proofs.PartLemmas.{first_len}
 use Rattle.iref_component.proofs.PathEditLemmas.{slice_all, splice_all}
 use Rattle.iref_component.proofs.AuthorityPartLemmas.{user_info_in_rule, host_in_rule, port_in_rule}
 
 -- ---- lists
 
-front_replaced : (a b c x : Text) → splice (a ++ b ++ c) 0 (length a) x ≡ x ++ b ++ c
-front_replaced a b c x = same_lists _ _ (search (rules, places)) (λ k d h. grind (arith, places))
-
 middle_replaced : (a b c x : Text) → splice (a ++ b ++ c) (length a) (length a + length b) x ≡ a ++ x ++ c
 middle_replaced a b c x = same_lists _ _ (search (rules, places)) (λ k d h. grind (arith, places))
-
-end_replaced : (a b c x : Text) → splice (a ++ b ++ c) (length a + length b) (length (a ++ b ++ c)) x ≡ a ++ b ++ x
-end_replaced a b c x = same_lists _ _ (search (rules, places)) (λ k d h. grind (arith, places))
 
 -- ---- an authority with another part
 
@@ -68,44 +62,36 @@ module _ (set : CharTests) (above : AreAboveAscii set) (text : Text) (a : Author
       let front : length (user ++ a.host) ≡ with_mark 1 a.user_info + length a.host = omega (arith, user_length, length-append user a.host) in
       subst (IsCharBoundary text) front (mark_boundary colon (user ++ a.host) a.port text (lit< tt) (sym text_is))
 
-  -- ---- the user info
+  -- a part that stands between these
+  range_of : {P : Type 0} (front part back : Text) (start end : ℕ) (in_rule : P → Bool) (spelled : P → Text) (step : P → AuthorityValue → AuthorityValue) → text ≡ front ++ part ++ back
+      → start ≡ length front → end ≡ start + length part → IsCharBoundary text start → IsCharBoundary text end → ((x : P) → front ++ spelled x ++ back ≡ spell_authority (step x a))
+      → ((x : P) → in_rule x ≡ true → has_authority_parts set (step x a) ≡ true) → IsRangeOf set text start end in_rule spelled step
+  range_of front part back start end in_rule spelled step whole from to before after spells parts = record {
+    within = record { start_le_end = omega (arith, to); start = before; end = after };
+    replaced = λ x k.
+        let new = (λ i. splice (whole i) (from i) ((to ∙ ap (λ n. n + length part) from) i) (spelled x)) ∙ middle_replaced front part back (spelled x) ∙ spells x in
+        rw (← e) (spells_parts set above _ (step x a) new (parts x k));
+  }
 
-  pub user_info_within : IsWithin text (record { start = 0; end = with_mark 1 a.user_info })
-  user_info_within = grind (arith, common_steps, IsCharBoundary-start, authority_is_text, after_user)
-
-  user_info_put : (u : Option Text) → splice text 0 (with_mark 1 a.user_info) (part_then (at_sign ∷ []) u) ≡ spell_authority (with_user_info u a)
+  pub user_info_range : IsRangeOf set text 0 (with_mark 1 a.user_info) (none_or (is_user_info set)) (part_then (at_sign ∷ [])) with_user_info
   unfolding spell_authority
-  user_info_put u = grind (arith, common_steps, text_is, user_length, front_replaced)
+  user_info_range =
+      range_of [] user (a.host ++ port) 0 _ _ _ _ (text_is ∙ append_assoc user a.host port) refl (omega (arith, user_length)) (IsCharBoundary-start text (authority_is_text set above text h)) after_user
+      (λ x. sym (append_assoc (part_then (at_sign ∷ []) x) a.host port))
+      (λ x k. parts_with set (with_user_info x a) k (host_in_rule set text a e h) (port_in_rule set text a e h))
 
-  pub user_info_replaced : (u : Option Text) → none_or (is_user_info set) u ≡ true → SpellsAuthority set (splice text 0 (with_mark 1 a.user_info) (part_then (at_sign ∷ []) u)) (with_user_info u (read_authority text))
-  user_info_replaced u k =
-      rw (← e) (spells_parts set above _ (with_user_info u a) (user_info_put u) (parts_with set (with_user_info u a) k (host_in_rule set text a e h) (port_in_rule set text a e h)))
-
-  -- ---- the host
-
-  pub host_within : IsWithin text (record { start = with_mark 1 a.user_info; end = with_mark 1 a.user_info + length a.host })
-  host_within = grind (arith, after_user, before_port)
-
-  host_put : (x : Text) → splice text (with_mark 1 a.user_info) (with_mark 1 a.user_info + length a.host) x ≡ spell_authority (with_host x a)
+  pub host_range : IsRangeOf set text (with_mark 1 a.user_info) (with_mark 1 a.user_info + length a.host) (is_host set) (λ host. host) with_host
   unfolding spell_authority
-  host_put x = grind (arith, common_steps, text_is, user_length, middle_replaced)
+  host_range =
+      range_of user a.host port _ _ _ _ _ text_is (sym user_length) refl after_user before_port (λ x. refl)
+      (λ x k. parts_with set (with_host x a) (user_info_in_rule set text a e h) k (port_in_rule set text a e h))
 
-  pub host_replaced : (x : Text) → is_host set x ≡ true → SpellsAuthority set (splice text (with_mark 1 a.user_info) (with_mark 1 a.user_info + length a.host) x) (with_host x (read_authority text))
-  host_replaced x k =
-      rw (← e) (spells_parts set above _ (with_host x a) (host_put x) (parts_with set (with_host x a) (user_info_in_rule set text a e h) k (port_in_rule set text a e h)))
-
-  -- ---- the port
-
-  pub port_within : IsWithin text (record { start = with_mark 1 a.user_info + length a.host; end = length text })
-  port_within = grind (arith, before_port, IsCharBoundary-end)
-
-  port_put : (p : Option Text) → splice text (with_mark 1 a.user_info + length a.host) (length text) (then_part (colon ∷ []) p) ≡ spell_authority (with_port p a)
+  pub port_range : IsRangeOf set text (with_mark 1 a.user_info + length a.host) (length text) (none_or is_port) (then_part (colon ∷ [])) with_port
   unfolding spell_authority
-  port_put p = grind (arith, common_steps, text_is, user_length, end_replaced)
-
-  pub port_replaced : (p : Option Text) → none_or is_port p ≡ true → SpellsAuthority set (splice text (with_mark 1 a.user_info + length a.host) (length text) (then_part (colon ∷ []) p)) (with_port p (read_authority text))
-  port_replaced p k =
-      rw (← e) (spells_parts set above _ (with_port p a) (port_put p) (parts_with set (with_port p a) (user_info_in_rule set text a e h) (host_in_rule set text a e h) k))
+  port_range =
+      range_of (user ++ a.host) port [] _ _ _ _ _ (text_is ∙ sym (append-nil (user ++ a.host ++ port))) (omega (arith, user_length, length-append user a.host))
+      (omega (arith, user_length, ap length text_is, length-append (user ++ a.host) port, length-append user a.host)) before_port (IsCharBoundary-end text)
+      (λ x. append-nil (user ++ a.host ++ then_part (colon ∷ []) x)) (λ x k. parts_with set (with_port x a) (user_info_in_rule set text a e h) (host_in_rule set text a e h) k)
 
 -- ---- the whole
 

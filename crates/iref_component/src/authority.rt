@@ -1,19 +1,28 @@
-//! Authorities, borrowed and owned (RFC 3986 section 3.2).
-ghost use Rattle.std.specs.Prelude.{◌≡◌, option_map};
-ghost use Rattle.iref_grammar.specs.{read_authority};
-ghost use Rattle.iref_model.specs.{authority_key, authority_key_cmp};
+//! Authorities, borrowed and owned, and edits of the owned ones (RFC 3986 section 3.2).
+ghost use Rattle.std.specs.{Prelude.{◌≡◌, option_map, OnOk, OnErr, IsOk, IsNone, length}, Option.{option_copied}};
+ghost use Rattle.iref_grammar.specs.{read_authority, IsAuthority, IsHost, IsPort, IsUserInfo};
+ghost use Rattle.iref_model.specs.{authority_key, authority_key_cmp, port_text, AuthoritySteps.{with_user_info}};
+ghost use Rattle.iref_model.specs.AuthoritySteps.{with_host, with_port};
 ghost use Rattle.iref_canonical.specs.HashedParts.{IsAny, fed_authority};
 ghost use Rattle.iref_component.specs.{AuthorityParts.{parts_value}, Comparisons.{ComparesBy}, Components.{text_of}};
+ghost use Rattle.iref_component.specs.{Authorities.{EditsOwner}, AuthorityTexts.{IsWhole, one_whole}, Tries.{Tests}};
+ghost use Rattle.iref_component.specs.Tries.{TestsIfSome};
+ghost use Rattle.iref_splice.proofs.PartLemmas.{whole_is_within};
 
-mod edits;
-
+use crate::authority_mut::{AuthorityMut, AuthorityPart};
 use crate::authority_parts::{AuthorityParts, parts_of};
 use crate::borrowed::BorrowedText;
 use crate::component_rules::AuthorityRule;
 use crate::named_texts::{Host, Port, UserInfo};
 use crate::owned::TextBuf;
 use crate::rule_text::{RuleText, Storage};
+use crate::test_before_edit::Tried;
+use iref_fault::{InvalidAuthority, InvalidHost, InvalidPort, InvalidUserInfo};
 use iref_grammar::chars::CharSet;
+use iref_splice::Memory;
+use iref_splice::change::{Change, Span};
+use iref_splice::target::Target;
+use std::alloc::Global;
 use std::hash::Hash;
 
 /// An authority (RFC 3986 section 3.2): that of `//u@h:80/x` is `u@h:80`. `InvalidAuthority` holds
@@ -89,6 +98,130 @@ impl<C: CharSet> AuthorityBuf<C> {
         ensures { option_map text_of result ≡ (read_authority (text_of self.now)).port }
     {
         self.parts().port
+    }
+}
+
+impl<C: CharSet> Target<AuthorityPart, C> for AuthorityBuf<C> {
+    ghost text = { text_of };
+
+    ghost stands = { λ text _. IsWhole text };
+
+    ghost one_range = { λ text _. one_whole text };
+
+    ghost is_within = { λ _ _ _ _ stands. whole_is_within stands.0 stands.1 };
+
+    fn alloc(&self) -> Global {
+        self.alloc()
+    }
+
+    fn part(&self, after: (), at: Span) -> &str {
+        self.as_str()
+    }
+
+    fn replace(&mut self, after: (), at: Span, by: Change<'_>) -> Result<usize, Memory> {
+        self.apply(by)?;
+        Ok(self.len())
+    }
+}
+
+#[tactic(auto, using(crate::proofs::AuthorityEditLemmas::whole_steps))]
+impl<C: CharSet> AuthorityBuf<C> {
+    ghost use Rattle.iref_component.specs.AuthorityEdits.{Borrows, edited_bytes, authority_mut_start};
+    ghost use Rattle.iref_component.specs.AuthorityEdits.{authority_mut_end};
+
+    /// The editor of all of it: with it, `set_port` with `80` turns `h` into `h:80`.
+    pub fn as_authority_mut(&mut self) -> AuthorityMut<'_, C, AuthorityBuf<C>>
+        ensures same_reference { Borrows result self.entry.ghost_name }
+        ensures bytes { edited_bytes result ≡ text_of self.old }
+        ensures start { authority_mut_start result ≡ 0 }
+        ensures end { authority_mut_end result ≡ length (text_of self.old) }
+    {
+        let end = self.len();
+        AuthorityMut::of_target(self, 0..end)
+    }
+
+    /// Replaces the authority, in the room of the old one where it fits: `u@h:80` by `g` is `g`.
+    /// Out of memory, it returns `Memory` and changes nothing.
+    pub fn replace(&mut self, authority: Authority<'_, C>) -> Result<(), Memory>
+        ensures ok { OnOk result (text_of self.new ≡ text_of authority.entry) }
+        ensures err { OnErr result (text_of self.new ≡ text_of self.old) }
+    {
+        self.as_authority_mut().replace(authority)
+    }
+
+    /// Replaces, adds or removes the user info with its `@`; removing takes no memory: `u@h`
+    /// without a user info is `h`.
+    pub fn set_user_info(&mut self, user_info: Option<UserInfo<'_, C>>) -> Result<(), Memory>
+        ensures edit { EditsOwner (with_user_info (option_map text_of user_info.entry))
+            self.old self.new result }
+        ensures none { IsNone user_info.entry → IsOk result }
+    {
+        self.as_authority_mut().set_user_info(user_info)
+    }
+
+    /// Replaces the host (RFC 3986 section 3.2.2): `u@h:80` with `g` becomes `u@g:80`. Out of
+    /// memory, it returns `Memory` and changes nothing.
+    pub fn set_host(&mut self, host: Host<'_, C>) -> Result<(), Memory>
+        ensures { EditsOwner (with_host (text_of host.entry)) self.old self.new result }
+    {
+        self.as_authority_mut().set_host(host)
+    }
+
+    /// Replaces, adds or removes the port with its `:`; removing takes no memory: `h:80` without a
+    /// port is `h`.
+    pub fn set_port(&mut self, port: Option<Port<'_>>) -> Result<(), Memory>
+        ensures edit { EditsOwner (with_port (option_map text_of port.entry))
+            self.old self.new result }
+        ensures none { IsNone port.entry → IsOk result }
+    {
+        self.as_authority_mut().set_port(port)
+    }
+
+    /// Sets the port to a number, in decimal digits without leading zeros, or removes it, which
+    /// takes no memory: `h` with 80 becomes `h:80`. Out of memory, it returns `Memory` and changes
+    /// nothing.
+    pub fn set_port_u32(&mut self, port: Option<u32>) -> Result<(), Memory>
+        ensures edit { EditsOwner (with_port (option_map port_text port)) self.old self.new result }
+        ensures none { IsNone port → IsOk result }
+    {
+        self.as_authority_mut().set_port_u32(port)
+    }
+
+    /// Does as `replace` does with a text: `Invalid` holds a text that is not an authority.
+    pub fn try_replace<'t>(&mut self, authority: &'t str) -> Tried<InvalidAuthority<&'t str>>
+        ensures ok { OnOk result (text_of self.new ≡ authority.now) }
+        ensures text { Tests (IsAuthority C.tests) authority.entry (λ error. error.0) result }
+        ensures err { OnErr result (text_of self.new ≡ text_of self.old) }
+    {
+        self.as_authority_mut().try_replace(authority)
+    }
+
+    /// Does as `set_user_info` does with a text: `Invalid` holds a text that is not a user info.
+    pub fn try_set_user_info<'t>(
+        &mut self,
+        user_info: Option<&'t str>,
+    ) -> Tried<InvalidUserInfo<&'t str>>
+        ensures edit { EditsOwner (with_user_info (option_copied user_info.entry))
+            self.old self.new result }
+        ensures text { TestsIfSome (IsUserInfo C.tests) user_info.entry (λ error. error.0) result }
+    {
+        self.as_authority_mut().try_set_user_info(user_info)
+    }
+
+    /// Does as `set_host` does with a text: `Invalid` holds a text that is not a host.
+    pub fn try_set_host<'t>(&mut self, host: &'t str) -> Tried<InvalidHost<&'t str>>
+        ensures edit { EditsOwner (with_host host.now) self.old self.new result }
+        ensures text { Tests (IsHost C.tests) host.entry (λ error. error.0) result }
+    {
+        self.as_authority_mut().try_set_host(host)
+    }
+
+    /// Does as `set_port` does with a text: `Invalid` holds a text that is not a port.
+    pub fn try_set_port<'t>(&mut self, port: Option<&'t str>) -> Tried<InvalidPort<&'t str>>
+        ensures edit { EditsOwner (with_port (option_copied port.entry)) self.old self.new result }
+        ensures text { TestsIfSome IsPort port.entry (λ error. error.0) result }
+    {
+        self.as_authority_mut().try_set_port(port)
     }
 }
 

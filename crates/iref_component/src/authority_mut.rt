@@ -1,26 +1,28 @@
 //! Edits of an authority in place (RFC 3986 section 3.2).
 ghost use Rattle.std.specs.Prelude.{◌≡◌, ◌≤◌, ◌+◌, ◌-◌, ◌++◌, true, length, slice_range, vec_len, Some, IfOk, IsOk};
-ghost use Rattle.std.specs.{Prelude.{IsNone, option_map}, Borrow.{sem, RestsIfErr}};
-ghost use Rattle.iref_grammar.specs.{AuthorityValue, IsAuthority, is_authority, read_authority};
+ghost use Rattle.std.specs.{Prelude.{IsNone, option_map, [], ◌∷◌}, Borrow.{sem, RestsIfErr}};
+ghost use Rattle.std.specs.Option.{option_copied};
+ghost use Rattle.iref_grammar.specs.{AuthorityValue, IsAuthority, is_authority, read_authority, is_user_info};
+ghost use Rattle.iref_grammar.specs.{is_host, is_port, none_or, IsHost, IsPort, IsUserInfo, Grammar.{at_sign, colon}};
+ghost use Rattle.iref_grammar.specs.Texts.{part_then, then_part};
 ghost use Rattle.iref_model.specs.{port_text, AuthoritySteps.{with_user_info, with_host, with_port}};
 ghost use Rattle.iref_splice.specs.Changes.{IsWithin, replaced};
-ghost use Rattle.iref_component.specs.{AuthorityTexts.{SpellsAuthority, authority_is_text}, Components.{text_of}};
-ghost use Rattle.iref_component.specs.Makers.{ParsesUtf8};
-
-mod ranges;
-mod try_edits;
+ghost use Rattle.iref_component.specs.{AuthorityTexts.{SpellsAuthority, IsRangeOf, authority_is_text}};
+ghost use Rattle.iref_component.specs.{Components.{text_of}, Makers.{ParsesUtf8}, Tries.{Tests, TestsIfSome}};
 
 use crate::authority::Authority;
-use crate::borrowed::text_of;
+use crate::borrowed::{borrowed_of, text_of};
+use crate::component_rules::{AuthorityRule, HostRule, PortRule, UserInfoRule};
 use crate::named_texts::{Host, Port, UserInfo};
-use iref_fault::InvalidAuthority;
+use crate::test_before_edit::{Tried, read, test};
+use iref_fault::{InvalidAuthority, InvalidHost, InvalidPort, InvalidUserInfo, TryError};
 use iref_grammar::chars::CharSet;
+use iref_parse::authority::split_parts;
 use iref_splice::Memory;
 use iref_splice::change::{Change, Span};
 use iref_splice::target::{Part, Target};
-use iref_splice::text::{marked, marked_after};
+use iref_splice::text::{marked, marked_after, marked_len};
 use itoa::Buffer;
-use ranges::{host_range, port_range, user_info_range};
 use std::fmt;
 use std::marker::PhantomData;
 use std::ops::Range;
@@ -36,6 +38,22 @@ impl Part for AuthorityPart {
     ghost reads = { λ tests _. is_authority tests };
 
     ghost is_text = { λ tests above _. authority_is_text tests above };
+}
+
+// Where the host stands. The user info and its `@` end where it starts, and the port and its `:`
+// start where it ends.
+fn host_range<C: CharSet>(text: &str) -> Range<usize>
+    requires { is_authority C.tests text.now ≡ true }
+    ensures user_info { IsRangeOf C.tests text.now 0 result.start
+        (none_or (is_user_info C.tests)) (part_then (at_sign ∷ [])) with_user_info }
+    ensures host { IsRangeOf C.tests text.now result.start result.end
+        (is_host C.tests) (λ host. host) with_host }
+    ensures port { IsRangeOf C.tests text.now result.end (length text.now)
+        (none_or is_port) (then_part (colon ∷ [])) with_port }
+{
+    let slices = split_parts(text);
+    let start = marked_len(1, slices.user_info);
+    start..start + slices.host.len()
 }
 
 /// The editor of an authority that stands in a vector of bytes, or in another text that it borrows:
@@ -188,8 +206,8 @@ impl<'a, C: CharSet, T: Target<AuthorityPart, C>> AuthorityMut<'a, C, T> {
             self.old self.new result }
         ensures none { IsNone user_info.entry → IsOk result }
     {
-        let within = user_info_range::<C>(self.text());
-        self.put(within, marked_after(text_of(user_info), "@"))
+        let host = host_range::<C>(self.text());
+        self.put(0..host.start, marked_after(text_of(user_info), "@"))
     }
 
     /// Replaces the host: of `u@h:80` what stands before the `:80` and after the `u@`.
@@ -207,7 +225,8 @@ impl<'a, C: CharSet, T: Target<AuthorityPart, C>> AuthorityMut<'a, C, T> {
             self.old self.new result }
         ensures none { IsNone port.entry → IsOk result }
     {
-        let within = port_range::<C>(self.text());
+        let text = self.text();
+        let within = host_range::<C>(text).end..text.len();
         self.put(within, marked(":", text_of(port)))
     }
 
@@ -223,6 +242,47 @@ impl<'a, C: CharSet, T: Target<AuthorityPart, C>> AuthorityMut<'a, C, T> {
             Some(number) => self.set_port(Some(Port::new_unchecked(Buffer::new().format(number)))),
             None => self.set_port(None),
         }
+    }
+
+    /// Does as `replace` does with a text: `Invalid` holds a text that is not an authority.
+    pub fn try_replace<'t>(&mut self, authority: &'t str) -> Tried<InvalidAuthority<&'t str>>
+        ensures edit { Edits (λ _. read_authority authority.now) self.old self.new result }
+        ensures text { Tests (IsAuthority C.tests) authority.entry (λ error. error.0) result }
+    {
+        let authority = read::<AuthorityRule, C>(authority)?;
+        self.replace(authority).or(Err(TryError::Memory))
+    }
+
+    /// Does as `set_user_info` does with a text: `Invalid` holds a text that is not a user info.
+    pub fn try_set_user_info<'t>(
+        &mut self,
+        user_info: Option<&'t str>,
+    ) -> Tried<InvalidUserInfo<&'t str>>
+        ensures edit { Edits (with_user_info (option_copied user_info.entry))
+            self.old self.new result }
+        ensures text { TestsIfSome (IsUserInfo C.tests) user_info.entry (λ error. error.0) result }
+    {
+        test::<UserInfoRule, C>(user_info)?;
+        self.set_user_info(borrowed_of(user_info))
+            .or(Err(TryError::Memory))
+    }
+
+    /// Does as `set_host` does with a text: `Invalid` holds a text that is not a host.
+    pub fn try_set_host<'t>(&mut self, host: &'t str) -> Tried<InvalidHost<&'t str>>
+        ensures edit { Edits (with_host host.now) self.old self.new result }
+        ensures text { Tests (IsHost C.tests) host.entry (λ error. error.0) result }
+    {
+        let host = read::<HostRule, C>(host)?;
+        self.set_host(host).or(Err(TryError::Memory))
+    }
+
+    /// Does as `set_port` does with a text: `Invalid` holds a text that is not a port.
+    pub fn try_set_port<'t>(&mut self, port: Option<&'t str>) -> Tried<InvalidPort<&'t str>>
+        ensures edit { Edits (with_port (option_copied port.entry)) self.old self.new result }
+        ensures text { TestsIfSome IsPort port.entry (λ error. error.0) result }
+    {
+        test::<PortRule, C>(port)?;
+        self.set_port(borrowed_of(port)).or(Err(TryError::Memory))
     }
 }
 

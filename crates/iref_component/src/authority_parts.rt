@@ -36,6 +36,7 @@ impl<C: CharSet> Clone for AuthorityParts<'_, C> {
 }
 
 /// The parts of a text that is known to be an authority, as slices of it.
+#[tactic(auto, unfolding(iref_grammar::specs::Authority::is_authority, iref_grammar::specs::Authority::has_authority_parts))]
 pub fn parts_of<C: CharSet>(text: &str) -> AuthorityParts<'_, C>
     requires { is_authority C.tests text.now ≡ true }
     ensures { parts_value result ≡ read_authority text.now }

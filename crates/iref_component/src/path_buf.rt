@@ -1,21 +1,35 @@
-//! Paths that own their text (RFC 3986 section 3.3).
-ghost use Rattle.std.specs.Prelude.{◌≡◌, ◌<◌, ◌^◌, length, option_map};
+//! Paths that own their text, and their edits (RFC 3986 sections 3.3 and 5.2.4).
+ghost use Rattle.std.specs.Prelude.{◌≡◌, ◌<◌, ◌^◌, length, option_map, ◌&&◌, ◌≤◌, not, IfOk, IsOk, map};
+ghost use Rattle.std.specs.Iterator.{IsFiniteIterable};
 ghost use Rattle.iref_model.specs.{normal_segments};
-ghost use Rattle.iref_component.specs.{Components.{text_of}, NormalPaths.{normal_segments_left}};
-ghost use Rattle.iref_component.specs.Paths.{path_value, segments_left};
+ghost use Rattle.iref_component.specs.{Components.{text_of}, NormalPaths.{normal_segments_left}, Paths.{path_value}};
+ghost use Rattle.iref_component.specs.{Paths.{segments_left}, PathEdits.{Borrows, EditsOwner, IsEditorOf, SpellsPath}};
+ghost use Rattle.iref_component.specs.{PathEdits.{OwnerBecomes}, WholePaths.{IsWholePath, one_whole_path}};
+ghost use Rattle.iref_component.specs.{Appends.{Appends, TakesAll, following, lazily, TriesAppends}, Tries.{Tests}};
+ghost use Rattle.iref_grammar.specs.{alone, is_empty, spell_path, IsPath, IsSegment, read_path};
+ghost use Rattle.iref_splice.proofs.PartLemmas.{whole_is_within};
 ghost use Rattle.iref_model.specs.PathFunctions as function;
-
-mod appends;
-mod edits;
-mod try_edits;
+ghost use Rattle.iref_model.specs.PathSteps as step;
 
 use crate::component_rules::PathRule;
 use crate::named_texts::Segment;
 use crate::normal::NormalizedSegments;
 use crate::owned::TextBuf;
 use crate::path::Path;
+use crate::path_mut::PathMut;
 use crate::segments::Segments;
+use crate::test_before_edit::Tried;
+use iref_fault::{InvalidPath, InvalidSegment};
 use iref_grammar::chars::CharSet;
+use iref_grammar::context::PathContext;
+use iref_path::path_part::PathPart;
+use iref_path::rewriting::rewrite_text;
+use iref_path::target::PathTarget;
+use iref_splice::Memory;
+use iref_splice::change::{Change, Span};
+use iref_splice::target::Target;
+use std::alloc::Global;
+use std::mem;
 
 /// A path that owns its text (RFC 3986 section 3.3), such as `/a`, which is edited in place to
 /// `/a/b`.
@@ -93,5 +107,232 @@ impl<C: CharSet> PathBuf<C> {
         ensures { path_value result ≡ function.parent_or_empty (path_value self.now) }
     {
         self.as_path().parent_or_empty()
+    }
+}
+
+impl<C: CharSet> Target<PathPart, C> for PathBuf<C> {
+    ghost text = { text_of };
+
+    ghost stands = { IsWholePath C.tests };
+
+    ghost one_range = { one_whole_path C.tests };
+
+    ghost is_within = { λ _ _ _ _ stands. whole_is_within stands.0 stands.1 };
+
+    fn alloc(&self) -> Global {
+        self.alloc()
+    }
+
+    fn part(&self, after: PathContext, at: Span) -> &str {
+        self.as_str()
+    }
+
+    fn replace(&mut self, after: PathContext, at: Span, by: Change<'_>) -> Result<usize, Memory> {
+        self.apply(by)?;
+        Ok(self.len())
+    }
+}
+
+impl<C: CharSet> PathTarget<C> for PathBuf<C> {
+    fn rewrite(&mut self, after: PathContext, at: Span, guard: &str) -> usize {
+        let empty = PathBuf::empty(self.alloc());
+        let mut text = mem::replace(self, empty).into_string();
+        let end = rewrite_text(&mut text, at, guard);
+        *self = PathBuf::new_unchecked(text);
+        end
+    }
+}
+
+#[tactic(auto, using(crate::proofs::PathEditLemmas::whole_steps))]
+impl<C: CharSet> PathBuf<C> {
+    /// The editor of the path: with it, `push` with `b` turns `/a` into `/a/b`.
+    pub fn as_path_mut(&mut self) -> PathMut<'_, C, PathBuf<C>>
+        ensures same_reference { Borrows result self.entry.ghost_name }
+        ensures editor { IsEditorOf result (text_of self.old) alone
+            0 (length (text_of self.old)) }
+    {
+        PathMut::from_path(self)
+    }
+
+    /// Appends a segment as it is, `.` and `..` too: `a` with `..` becomes `a/..`. Out of memory,
+    /// it returns `Memory` and changes nothing.
+    pub fn lazy_push(&mut self, segment: Segment<'_, C>) -> Result<(), Memory>
+        ensures { EditsOwner (step.lazy_pushed alone (text_of segment.entry))
+            self.old self.new result }
+    {
+        self.as_path_mut().lazy_push(segment)
+    }
+
+    /// Appends a segment, but follows dots (RFC 3986 section 5.2.4): `.` closes the path with a
+    /// `/`, and `..` removes the last segment and closes the path, so that `foo/bar` becomes
+    /// `foo/`.
+    pub fn push(&mut self, segment: Segment<'_, C>) -> Result<(), Memory>
+        ensures { EditsOwner (step.pushed alone (text_of segment.entry))
+            self.old self.new result }
+    {
+        self.as_path_mut().push(segment)
+    }
+
+    /// Removes the last segment. A path that ends in `..`, or a relative one without segments, gains
+    /// a `..`.
+    /// `//a` becomes `/./`.
+    pub fn pop(&mut self) -> Result<(), Memory>
+        ensures { EditsOwner (step.popped alone) self.old self.new result }
+    {
+        self.as_path_mut().pop()
+    }
+
+    /// Pops, and returns whether the path changed: `/a` becomes `/`, an absolute path without
+    /// segments stays. Out of memory, it returns `Memory` and changes nothing.
+    pub fn try_pop(&mut self) -> Result<bool, Memory>
+        ensures edit { EditsOwner (step.popped alone) self.old self.new result }
+        ensures changed { IfOk result (λ changed. changed ≡ not ((path_value self.old).absolute
+            && is_empty (path_value self.old).segments)) }
+    {
+        self.as_path_mut().try_pop()
+    }
+
+    /// Replaces the path, with a guard where it would be read as something else: alone, `x` by
+    /// `1:2` is `./1:2`. Out of memory, it returns `Memory` and changes nothing.
+    pub fn replace(&mut self, path: Path<'_, C>) -> Result<(), Memory>
+        ensures { EditsOwner (step.replaced alone (path_value path.entry))
+            self.old self.new result }
+    {
+        self.as_path_mut().replace(path)
+    }
+
+    /// Replaces the path by its normal form, guarded where that is needed (RFC 3986 section 5.2.4).
+    /// Memory is taken only where that path is longer, such as `./a:b` for `a:b`.
+    pub fn normalize(&mut self) -> Result<(), Memory>
+        ensures edit { EditsOwner (step.normalized alone) self.old self.new result }
+        ensures shorter { length (spell_path (step.normalized alone (path_value self.old)))
+            ≤ length (text_of self.old) → IsOk result }
+    {
+        self.as_path_mut().normalize()
+    }
+
+    /// Removes all segments, so that the path is `/` or empty.
+    pub fn clear(&mut self)
+        ensures { SpellsPath self.new (step.cleared (path_value self.old)) }
+    {
+        self.as_path_mut().clear();
+    }
+
+    /// Appends each segment as it is. The iterator is asked up to its first `None`. At an `Err` the
+    /// segments before the refused one stand.
+    pub fn lazy_append<'s, I>(&mut self, segments: I) -> Result<(), Memory>
+    where
+        I: IntoIterator<Item = Segment<'s, C>>,
+        requires { IsFiniteIterable I.into_iter_gives I.IntoIter.can_next I.IntoIter.remaining
+            segments }
+        ensures { Appends lazily I.into_iter_gives I.IntoIter.next_gives segments
+            (OwnerBecomes self.old self.new) result }
+    {
+        self.as_path_mut().lazy_append(segments)
+    }
+
+    /// Appends each segment as `push` does, and closes the path after a last `.` or `..`: `..` and
+    /// `baz` after `/foo/bar` give `/foo/baz`. The iterator is asked up to its first `None`. At an
+    /// `Err` the segments before the refused one stand, and the path is not closed.
+    pub fn append<'s, I>(&mut self, segments: I) -> Result<(), Memory>
+    where
+        I: IntoIterator<Item = Segment<'s, C>>,
+        requires { IsFiniteIterable I.into_iter_gives I.IntoIter.can_next I.IntoIter.remaining
+            segments }
+        ensures { Appends following I.into_iter_gives I.IntoIter.next_gives segments
+            (OwnerBecomes self.old self.new) result }
+    {
+        self.as_path_mut().append(segments)
+    }
+
+    /// Replaces the path by an absolute one, or appends the segments of a relative one: `../b`
+    /// after `/x/a` gives `/x/b`. This is one edit, so an `Err` changes nothing.
+    pub fn join(&mut self, path: Path<'_, C>) -> Result<(), Memory>
+        ensures { EditsOwner (step.joined alone (path_value path.entry)) self.old self.new result }
+    {
+        self.as_path_mut().join(path)
+    }
+
+    /// The path that pushing these segments one by one on the empty or the absolute path gives:
+    /// absolute and `a`, `b`, `..` is `/a/`.
+    pub fn from_segments<'s, I: IntoIterator<Item = Segment<'s, C>> + Drop>(
+        alloc: Global,
+        absolute: bool,
+        segments: I,
+    ) -> Result<PathBuf<C>, Memory>
+        requires { IsFiniteIterable I.into_iter_gives I.IntoIter.can_next I.IntoIter.remaining
+            segments }
+        ensures { IfOk result (λ path. TakesAll I.into_iter_gives I.IntoIter.next_gives segments
+            (λ items. SpellsPath path (step.from_segments absolute (map text_of items)))) }
+    {
+        let mut path = Path::<C>::without_segments(absolute).to_owned(alloc)?;
+        for segment in segments {
+            path.push(segment)?;
+        }
+        Ok(path)
+    }
+
+    /// Appends a text as a segment, as it is: `a` with `..` becomes `a/..`. `Invalid` holds a text
+    /// that is no segment, such as `b/c`.
+    pub fn try_lazy_push<'t>(&mut self, segment: &'t str) -> Tried<InvalidSegment<&'t str>>
+        ensures edit { EditsOwner (step.lazy_pushed alone segment.now) self.old self.new result }
+        ensures text { Tests (IsSegment C.tests) segment.entry (λ error. error.0) result }
+    {
+        self.as_path_mut().try_lazy_push(segment)
+    }
+
+    /// Appends a text as a segment, but follows dots, as `push` does.
+    pub fn try_push<'t>(&mut self, segment: &'t str) -> Tried<InvalidSegment<&'t str>>
+        ensures edit { EditsOwner (step.pushed alone segment.now) self.old self.new result }
+        ensures text { Tests (IsSegment C.tests) segment.entry (λ error. error.0) result }
+    {
+        self.as_path_mut().try_push(segment)
+    }
+
+    /// Appends each text as a segment, as it is. The iterator is asked up to its first `None`. At
+    /// an `Err` the segments before the refused text stand.
+    pub fn try_lazy_append<'t, I>(&mut self, segments: I) -> Tried<InvalidSegment<&'t str>>
+    where
+        I: IntoIterator<Item = &'t str>,
+        requires { IsFiniteIterable I.into_iter_gives I.IntoIter.can_next I.IntoIter.remaining
+            segments }
+        ensures { TriesAppends lazily C.tests I.into_iter_gives I.IntoIter.next_gives segments
+            (OwnerBecomes self.old self.new) result }
+    {
+        self.as_path_mut().try_lazy_append(segments)
+    }
+
+    /// Appends each text as a segment, and closes the path after a last `.` or `..`, as `append`
+    /// does. The iterator is asked up to its first `None`. At an `Err` the segments before the
+    /// refused text stand, and the path is not closed: `b`, `c`, `..` and `c/d` after `/a` are
+    /// refused at `c/d`, and leave `/a/b`.
+    pub fn try_append<'t, I>(&mut self, segments: I) -> Tried<InvalidSegment<&'t str>>
+    where
+        I: IntoIterator<Item = &'t str>,
+        requires { IsFiniteIterable I.into_iter_gives I.IntoIter.can_next I.IntoIter.remaining
+            segments }
+        ensures { TriesAppends following C.tests I.into_iter_gives I.IntoIter.next_gives segments
+            (OwnerBecomes self.old self.new) result }
+    {
+        self.as_path_mut().try_append(segments)
+    }
+
+    /// Replaces the path by that of a text, with a guard where it would be read as something else:
+    /// alone, `x` by `1:2` is `./1:2`. `Invalid` holds a text that is no path, such as `a?b`.
+    pub fn try_replace<'t>(&mut self, path: &'t str) -> Tried<InvalidPath<&'t str>>
+        ensures edit { EditsOwner (step.replaced alone (read_path path.now))
+            self.old self.new result }
+        ensures text { Tests (IsPath C.tests) path.entry (λ error. error.0) result }
+    {
+        self.as_path_mut().try_replace(path)
+    }
+
+    /// Joins the path of a text, as `join` does.
+    pub fn try_join<'t>(&mut self, path: &'t str) -> Tried<InvalidPath<&'t str>>
+        ensures edit { EditsOwner (step.joined alone (read_path path.now))
+            self.old self.new result }
+        ensures text { Tests (IsPath C.tests) path.entry (λ error. error.0) result }
+    {
+        self.as_path_mut().try_join(path)
     }
 }

@@ -1,24 +1,30 @@
-//! Edits of a path in place (RFC 3986 section 3.3).
-ghost use Rattle.std.specs.Prelude.{◌≡◌, ◌&&◌, true, not, length, Some, IfOk, IsOk};
-ghost use Rattle.iref_grammar.specs.{alone, is_empty, is_path_in, read_path, PathValue.{PathValue}};
-ghost use Rattle.iref_grammar.specs.Contexts.{follows_authority};
+//! Edits of a path in place (RFC 3986 sections 3.3 and 5.2.4).
+ghost use Rattle.std.specs.Prelude.{◌≡◌, ◌&&◌, true, not, length, Some, IfOk, IsOk, ◌≤◌, take, slice_range, vec_len};
+ghost use Rattle.std.specs.{Prelude.{[], OnOk}, Iterator.{IsFiniteIterable}, Borrow.{RestsIfErr, sem}};
+ghost use Rattle.iref_grammar.specs.{alone, is_empty, is_path_in, read_path, IsPath, is_path, IsSegment};
+ghost use Rattle.iref_grammar.specs.{PathValue.{PathValue}, Contexts.{follows_authority, context_from}};
 ghost use Rattle.iref_splice.specs.Changes.{IsNoLonger, IsWithin, changed};
 ghost use Rattle.iref_path.specs.PathParts.{is_path_after, StepsTo};
-ghost use Rattle.iref_component.specs.{Components.{text_of}, Paths.{path_value}};
+ghost use Rattle.iref_component.specs.{Components.{text_of}, Paths.{path_value}, BytePaths.{MayFollow}};
+ghost use Rattle.iref_component.specs.{Makers.{ParsesUtf8}, Rows.{bytes_row}, Tries.{Tests}};
+ghost use Rattle.iref_model.specs.{spell_path, RemovesDotSegments};
 ghost use Rattle.iref_model.specs.PathSteps as step;
 
-mod appends;
-mod bytes;
-mod normal;
-mod try_edits;
-
+use crate::component_rules::{PathRule, SegmentRule};
 use crate::named_texts::Segment;
 use crate::path::Path;
 use crate::path_buf::PathBuf;
+use crate::test_before_edit::{Tried, read};
+use iref_fault::{InvalidPath, InvalidSegment, TryError};
 use iref_grammar::chars::CharSet;
 use iref_grammar::context::PathContext;
 use iref_path::path_part::PathPart;
+use iref_path::rewriting::normal_guard;
+use iref_path::segments::split_root;
+use iref_path::spell::normalized_text;
+use iref_path::staying_names::is_name;
 use iref_path::steps;
+use iref_path::target::PathTarget;
 use iref_splice::Memory;
 use iref_splice::change::{Change, Span};
 use iref_splice::target::Target;
@@ -40,10 +46,24 @@ pub struct PathMut<'a, C: CharSet, T: Target<PathPart, C> = Vec<u8>> {
         range.start range.end } by { T.one_range _ _ _ _ },
 }
 
+// Room for the `/` or the guard before the first segment that is appended, and the `/` at the end.
+const MARKS: usize = 4;
+
+// A copy of the text, with room for a path of this length to be appended.
+fn copied(alloc: Global, text: &str, more: usize) -> Result<Vec<u8>, Memory>
+    ensures { IfOk result (λ bytes. bytes.items ≡ text.now) }
+{
+    let room = text.len().saturating_add(more).saturating_add(MARKS);
+    let mut bytes = Vec::with_capacity(alloc, room)?;
+    bytes.extend_from_slice(text.as_bytes())?;
+    Ok(bytes)
+}
+
 impl<'a, C: CharSet, T: Target<PathPart, C>> PathMut<'a, C, T> {
     ghost use Rattle.iref_component.specs.PathEdits.{Borrows, path_mut_context, path_mut_start, path_mut_end};
     ghost use Rattle.iref_component.specs.PathEdits.{path_mut_text, path_mut_value, IsEditorOf, IsSameEditor};
-    ghost use Rattle.iref_component.specs.PathEdits.{BecomesPath, Edits, EditsBy, EditsTo};
+    ghost use Rattle.iref_component.specs.PathEdits.{Becomes, BecomesPath, Edits, EditsBy, EditsTo};
+    ghost use Rattle.iref_component.specs.Appends.{Appends, TriesAppends, following, lazily};
 
     /// The path in a range of what holds it, with what stands before it.
     pub fn of_target(target: &'a mut T, context: PathContext, range: Range<usize>) -> Self
@@ -180,6 +200,244 @@ impl<'a, C: CharSet, T: Target<PathPart, C>> PathMut<'a, C, T> {
     {
         let step = steps::cleared::<C>(self.context, self.text());
         self.apply(step).unwrap();
+    }
+
+    // Follows a segment, without closing the path.
+    fn follow(&mut self, segment: Segment<'_, C>) -> Result<(), Memory>
+        ensures { Edits (λ context path. step.followed context path (text_of segment.entry))
+            self.old self.new result }
+    {
+        let step = steps::followed::<C>(self.context, self.text(), segment.as_str());
+        self.apply(step)
+    }
+
+    // Closes the path.
+    fn close(&mut self) -> Result<(), Memory>
+        ensures { Edits step.closed_path self.old self.new result }
+    {
+        let step = steps::closed::<C>(self.context, self.text());
+        self.apply(step)
+    }
+
+    /// Appends each segment as it is. The iterator is asked up to its first `None`. At an `Err` the
+    /// segments before the refused one stand.
+    pub fn lazy_append<'s, I>(&mut self, segments: I) -> Result<(), Memory>
+    where
+        I: IntoIterator<Item = Segment<'s, C>>,
+        requires { IsFiniteIterable I.into_iter_gives I.IntoIter.can_next I.IntoIter.remaining
+            segments }
+        ensures same { IsSameEditor self.old self.new }
+        ensures edit { Appends lazily I.into_iter_gives I.IntoIter.next_gives segments
+            (Becomes self.old self.new) result }
+    {
+        for segment in segments {
+            self.lazy_push(segment)?;
+        }
+        Ok(())
+    }
+
+    /// Appends each segment as `push` does, and closes the path after a last `.` or `..`: `..` and
+    /// `baz` after `/foo/bar` give `/foo/baz`. The iterator is asked up to its first `None`. At an
+    /// `Err` the segments before the refused one stand, and the path is not closed.
+    pub fn append<'s, I>(&mut self, segments: I) -> Result<(), Memory>
+    where
+        I: IntoIterator<Item = Segment<'s, C>>,
+        requires { IsFiniteIterable I.into_iter_gives I.IntoIter.can_next I.IntoIter.remaining
+            segments }
+        ensures same { IsSameEditor self.old self.new }
+        ensures edit { Appends following I.into_iter_gives I.IntoIter.next_gives segments
+            (Becomes self.old self.new) result }
+    {
+        let mut ends_in_dots = false;
+        for segment in segments {
+            self.follow(segment)?;
+            ends_in_dots = !is_name(segment.as_str());
+        }
+        if ends_in_dots {
+            self.close()?;
+        }
+        Ok(())
+    }
+
+    /// Replaces the path by an absolute one, or appends the segments of a relative one: `../b`
+    /// after `/x/a` gives `/x/b`. This is one edit, so an `Err` changes nothing.
+    pub fn join(&mut self, path: Path<'_, C>) -> Result<(), Memory>
+        ensures { EditsBy step.joined (path_value path.entry) self.old self.new result }
+    {
+        if path.is_absolute() {
+            return self.replace(path);
+        }
+        let mut bytes = copied(self.alloc(), self.text(), path.as_str().len())?;
+        let len = bytes.len();
+        let mut copy: PathMut<'_, C> = PathMut::of_target(&mut bytes, self.context, 0..len);
+        copy.append(path)?;
+        self.put(copy.text())
+    }
+
+    /// Appends a text as a segment, as it is: `a` with `..` becomes `a/..`. `Invalid` holds a text
+    /// that is no segment, such as `b/c`.
+    pub fn try_lazy_push<'t>(&mut self, segment: &'t str) -> Tried<InvalidSegment<&'t str>>
+        ensures edit { EditsBy step.lazy_pushed segment.now self.old self.new result }
+        ensures text { Tests (IsSegment C.tests) segment.entry (λ error. error.0) result }
+    {
+        let segment = read::<SegmentRule, C>(segment)?;
+        self.lazy_push(segment).or(Err(TryError::Memory))
+    }
+
+    /// Appends a text as a segment, but follows dots, as `push` does.
+    pub fn try_push<'t>(&mut self, segment: &'t str) -> Tried<InvalidSegment<&'t str>>
+        ensures edit { EditsBy step.pushed segment.now self.old self.new result }
+        ensures text { Tests (IsSegment C.tests) segment.entry (λ error. error.0) result }
+    {
+        let segment = read::<SegmentRule, C>(segment)?;
+        self.push(segment).or(Err(TryError::Memory))
+    }
+
+    /// Appends each text as a segment, as it is. The iterator is asked up to its first `None`. At
+    /// an `Err` the segments before the refused text stand.
+    pub fn try_lazy_append<'t, I>(&mut self, segments: I) -> Tried<InvalidSegment<&'t str>>
+    where
+        I: IntoIterator<Item = &'t str>,
+        requires { IsFiniteIterable I.into_iter_gives I.IntoIter.can_next I.IntoIter.remaining
+            segments }
+        ensures same { IsSameEditor self.old self.new }
+        ensures edit { TriesAppends lazily C.tests I.into_iter_gives I.IntoIter.next_gives segments
+            (Becomes self.old self.new) result }
+    {
+        for segment in segments {
+            self.try_lazy_push(segment)?;
+        }
+        Ok(())
+    }
+
+    /// Appends each text as a segment, and closes the path after a last `.` or `..`, as `append`
+    /// does. The iterator is asked up to its first `None`. At an `Err` the segments before the
+    /// refused text stand, and the path is not closed: `b`, `c`, `..` and `c/d` after `/a` are
+    /// refused at `c/d`, and leave `/a/b`.
+    pub fn try_append<'t, I>(&mut self, segments: I) -> Tried<InvalidSegment<&'t str>>
+    where
+        I: IntoIterator<Item = &'t str>,
+        requires { IsFiniteIterable I.into_iter_gives I.IntoIter.can_next I.IntoIter.remaining
+            segments }
+        ensures same { IsSameEditor self.old self.new }
+        ensures edit { TriesAppends following C.tests I.into_iter_gives I.IntoIter.next_gives
+            segments (Becomes self.old self.new) result }
+    {
+        let mut ends_in_dots = false;
+        for segment in segments {
+            self.try_follow(segment)?;
+            ends_in_dots = !is_name(segment);
+        }
+        if ends_in_dots {
+            self.close().or(Err(TryError::Memory))
+        } else {
+            Ok(())
+        }
+    }
+
+    /// Replaces the path by that of a text, with a guard where it would be read as something else:
+    /// alone, `x` by `1:2` is `./1:2`. `Invalid` holds a text that is no path, such as `a?b`.
+    pub fn try_replace<'t>(&mut self, path: &'t str) -> Tried<InvalidPath<&'t str>>
+        ensures edit { EditsBy step.replaced (read_path path.now) self.old self.new result }
+        ensures text { Tests (IsPath C.tests) path.entry (λ error. error.0) result }
+    {
+        let path = read::<PathRule, C>(path)?;
+        self.replace(path).or(Err(TryError::Memory))
+    }
+
+    /// Joins the path of a text, as `join` does.
+    pub fn try_join<'t>(&mut self, path: &'t str) -> Tried<InvalidPath<&'t str>>
+        ensures edit { EditsBy step.joined (read_path path.now) self.old self.new result }
+        ensures text { Tests (IsPath C.tests) path.entry (λ error. error.0) result }
+    {
+        let path = read::<PathRule, C>(path)?;
+        self.join(path).or(Err(TryError::Memory))
+    }
+
+    // Follows a text as a segment, without closing the path.
+    fn try_follow<'t>(&mut self, segment: &'t str) -> Tried<InvalidSegment<&'t str>>
+        ensures edit { Edits (λ context path. step.followed context path segment.now)
+            self.old self.new result }
+        ensures text { Tests (IsSegment C.tests) segment.entry (λ error. error.0) result }
+    {
+        let segment = read::<SegmentRule, C>(segment)?;
+        self.follow(segment).or(Err(TryError::Memory))
+    }
+}
+
+impl<C: CharSet, T: PathTarget<C>> PathMut<'_, C, T> {
+    ghost use Rattle.iref_component.specs.PathEdits.{Edits, path_mut_context, path_mut_text, path_mut_value};
+
+    /// Replaces the path by its normal form, guarded where that is needed (RFC 3986 section 5.2.4).
+    /// After an authority that is what `remove_dot_segments` leaves. Memory is taken only where
+    /// that path is longer, such as `./a:b` for `a:b` and `../` for `..`.
+    pub fn normalize(&mut self) -> Result<(), Memory>
+        ensures edit { Edits step.normalized self.old self.new result }
+        ensures dots { (path_mut_context self.old).has_authority ≡ true
+            → (path_mut_value self.old).absolute ≡ true → OnOk result
+            (RemovesDotSegments (path_mut_text self.old) [] (path_mut_text self.new)) }
+        ensures shorter { length (spell_path (step.normalized
+            (path_mut_context self.old) (path_mut_value self.old)))
+            ≤ length (path_mut_text self.old) → IsOk result }
+    {
+        let path = self.text();
+        let (guard, len) = normal_guard(self.context, path);
+        if len > path.len() {
+            return self.put_normal();
+        }
+        self.range.end = self.target.rewrite(self.context, self.range, guard);
+        Ok(())
+    }
+
+    // Puts the normal form in its place, once it is made beside the path.
+    fn put_normal(&mut self) -> Result<(), Memory>
+        ensures { Edits step.normalized self.old self.new result }
+    {
+        let path = self.text();
+        let (absolute, _) = split_root(path);
+        let text = normalized_text::<C>(self.alloc(), self.context, absolute, path)?;
+        self.put(text.as_str())
+    }
+}
+
+impl<'a, C: CharSet> PathMut<'a, C, Vec<u8>> {
+    ghost use Rattle.iref_component.specs.PathEdits.{Borrows, IsEditorOf, borrowed_name, path_mut_text};
+
+    /// The editor of the path in a range of the bytes, by what stands before it: of
+    /// `http://h/a/b?q` that at 8 to 12. The error holds the bytes of a range that are no path,
+    /// such as `?q`.
+    pub fn new(buffer: &'a mut Vec<u8>, range: Range<usize>) -> Result<Self, InvalidPath<&'a [u8]>>
+        requires start_le_end { range.start ≤ range.end }
+        requires in_bounds { range.end ≤ vec_len buffer.old }
+        requires follows { MayFollow C.tests buffer.old.items range.start range.end }
+        ensures* unchanged_if_refused { sem 𝓛 (RestsIfErr bytes_row buffer.entry borrowed_name
+            result (λ last. last.items ≡ buffer.old.items)) }
+        ensures parses { let part = slice_range buffer.old.items range.start range.end in
+            ParsesUtf8 (IsPath C.tests) path_mut_text (λ e. e.0.now) part part result }
+        ensures same_reference { IfOk result (λ p. Borrows p buffer.entry.ghost_name) }
+        ensures editor { IfOk result (λ p. IsEditorOf p buffer.old.items
+            (context_from (take range.start buffer.old.items)) range.start range.end) }
+    {
+        match Path::<C>::from_bytes(&buffer[range.start..range.end]) {
+            Ok(_) => Ok(PathMut::new_unchecked(buffer, range)),
+            Err(_) => Err(InvalidPath(&buffer[range.start..range.end])),
+        }
+    }
+
+    /// The editor of a range of bytes that is known to be a path, as that of `http://h/a/b?q` at 8
+    /// to 12.
+    pub fn new_unchecked(buffer: &'a mut Vec<u8>, range: Range<usize>) -> Self
+        requires start_le_end { range.start ≤ range.end }
+        requires in_bounds { range.end ≤ vec_len buffer.old }
+        requires path { is_path C.tests (slice_range buffer.old.items range.start range.end)
+            ≡ true }
+        requires follows { MayFollow C.tests buffer.old.items range.start range.end }
+        ensures same_reference { Borrows result buffer.entry.ghost_name }
+        ensures editor { IsEditorOf result buffer.old.items
+            (context_from (take range.start buffer.old.items)) range.start range.end }
+    {
+        let context = PathContext::from_bytes(&buffer[..range.start]);
+        PathMut::of_target(buffer, context, range)
     }
 }
 

@@ -13,19 +13,6 @@ use iref_splice::Memory;
 use std::alloc::Global;
 use std::convert::TryFrom;
 
-impl Port<'_> {
-    // The number, which the widest type has.
-    fn number(&self) -> Result<u128, PortError>
-        ensures { result ≡ port_number (2 ^ 128) (text_of self.now) }
-    {
-        let digits = self.as_str();
-        if digits.is_empty() {
-            return Err(PortError::Empty);
-        }
-        digits.parse::<u128>().or(Err(PortError::OutOfRange))
-    }
-}
-
 impl<S: Storage> RuleText<S, PortRule, UriChars> {
     /// Whether the text is empty: so is the port of `//h:`.
     pub fn is_empty(&self) -> bool
@@ -111,7 +98,7 @@ impl TryFrom<Port<'_>> for u8 {
     ghost try_from_gives = { λ port n. n ≡ port_number (2 ^ 8) (text_of port) };
 
     fn try_from(port: Port<'_>) -> Result<u8, PortError> {
-        u8::try_from(port.number()?).or(Err(PortError::OutOfRange))
+        u8::try_from(u128::try_from(port)?).or(Err(PortError::OutOfRange))
     }
 }
 
@@ -121,7 +108,7 @@ impl TryFrom<Port<'_>> for u16 {
     ghost try_from_gives = { λ port n. n ≡ port_number (2 ^ 16) (text_of port) };
 
     fn try_from(port: Port<'_>) -> Result<u16, PortError> {
-        u16::try_from(port.number()?).or(Err(PortError::OutOfRange))
+        u16::try_from(u128::try_from(port)?).or(Err(PortError::OutOfRange))
     }
 }
 
@@ -131,7 +118,7 @@ impl TryFrom<Port<'_>> for u32 {
     ghost try_from_gives = { λ port n. n ≡ port_number (2 ^ 32) (text_of port) };
 
     fn try_from(port: Port<'_>) -> Result<u32, PortError> {
-        u32::try_from(port.number()?).or(Err(PortError::OutOfRange))
+        u32::try_from(u128::try_from(port)?).or(Err(PortError::OutOfRange))
     }
 }
 
@@ -141,7 +128,7 @@ impl TryFrom<Port<'_>> for u64 {
     ghost try_from_gives = { λ port n. n ≡ port_number (2 ^ 64) (text_of port) };
 
     fn try_from(port: Port<'_>) -> Result<u64, PortError> {
-        u64::try_from(port.number()?).or(Err(PortError::OutOfRange))
+        u64::try_from(u128::try_from(port)?).or(Err(PortError::OutOfRange))
     }
 }
 
@@ -151,7 +138,11 @@ impl TryFrom<Port<'_>> for u128 {
     ghost try_from_gives = { λ port n. n ≡ port_number (2 ^ 128) (text_of port) };
 
     fn try_from(port: Port<'_>) -> Result<u128, PortError> {
-        port.number()
+        let digits = port.as_str();
+        if digits.is_empty() {
+            return Err(PortError::Empty);
+        }
+        digits.parse::<u128>().or(Err(PortError::OutOfRange))
     }
 }
 
@@ -161,7 +152,7 @@ impl TryFrom<Port<'_>> for i8 {
     ghost try_from_gives = { λ port n. n ≡ signed_port_number (2 ^ 7) (text_of port) };
 
     fn try_from(port: Port<'_>) -> Result<i8, PortError> {
-        i8::try_from(port.number()?).or(Err(PortError::OutOfRange))
+        i8::try_from(u128::try_from(port)?).or(Err(PortError::OutOfRange))
     }
 }
 
@@ -171,7 +162,7 @@ impl TryFrom<Port<'_>> for i16 {
     ghost try_from_gives = { λ port n. n ≡ signed_port_number (2 ^ 15) (text_of port) };
 
     fn try_from(port: Port<'_>) -> Result<i16, PortError> {
-        i16::try_from(port.number()?).or(Err(PortError::OutOfRange))
+        i16::try_from(u128::try_from(port)?).or(Err(PortError::OutOfRange))
     }
 }
 
@@ -181,7 +172,7 @@ impl TryFrom<Port<'_>> for i32 {
     ghost try_from_gives = { λ port n. n ≡ signed_port_number (2 ^ 31) (text_of port) };
 
     fn try_from(port: Port<'_>) -> Result<i32, PortError> {
-        i32::try_from(port.number()?).or(Err(PortError::OutOfRange))
+        i32::try_from(u128::try_from(port)?).or(Err(PortError::OutOfRange))
     }
 }
 
@@ -191,7 +182,7 @@ impl TryFrom<Port<'_>> for i64 {
     ghost try_from_gives = { λ port n. n ≡ signed_port_number (2 ^ 63) (text_of port) };
 
     fn try_from(port: Port<'_>) -> Result<i64, PortError> {
-        i64::try_from(port.number()?).or(Err(PortError::OutOfRange))
+        i64::try_from(u128::try_from(port)?).or(Err(PortError::OutOfRange))
     }
 }
 
@@ -201,7 +192,7 @@ impl TryFrom<Port<'_>> for i128 {
     ghost try_from_gives = { λ port n. n ≡ signed_port_number (2 ^ 127) (text_of port) };
 
     fn try_from(port: Port<'_>) -> Result<i128, PortError> {
-        i128::try_from(port.number()?).or(Err(PortError::OutOfRange))
+        i128::try_from(u128::try_from(port)?).or(Err(PortError::OutOfRange))
     }
 }
 

@@ -3,7 +3,7 @@ use Rattle.iref_component.specs.Components.{text_of}
 use Rattle.iref_grammar.proofs.PathLemmas.{read_path-reads}
 use Rattle.iref_model.specs.PathSteps.{from_segments}
 use Rattle.iref_component.proofs.ManyLemmas.{from_segments_next}
-use Rattle.iref_component.proofs.path_buf.appends.PathBuf+C.from_segments.Goals as goal
+use Rattle.iref_component.proofs.path_buf.PathBuf+C.from_segments.Goals as goal
 
 pub loop-segment-init : goal.loop-segment-init
 unfolding from_segments

@@ -1,7 +1,7 @@
 use Rattle.std.proofs.{Common.{◌^◌, ◌<◌, length, ap, ◌∙◌, arith, rules}, lemmas.Bool.Decides.{nat_tests}}
 use Rattle.iref_component.specs.Ports.{port_number}
 use Rattle.iref_component.proofs.PortLemmas.{port_number-parsed}
-use Rattle.iref_component.proofs.port.Port.number.Goals as goal
+use Rattle.iref_component.proofs.port.U128TryFromPort.try_from.Goals as goal
 
 pub returns : goal.returns
 returns c =
