@@ -98,8 +98,6 @@ fn path_between(
     Ok((bytes, len))
 }
 
-/// The bytes of what a reference resolves to against a base, and the lengths of its components,
-
 /// The bytes of what a reference resolves to against a base, and the lengths of its components, given
 /// both texts and their components. None where the reference's row has no path of its own after the
 /// base's authority, where the base has none, and where there is no room for both paths. The room

@@ -1,7 +1,7 @@
 //! References that are measured before they are written: what one resolves to against a base,
 //! strict (RFC 3986 sections 5.2.2 and 5.3).
 ghost use Rattle.std.specs.{Fmt.{WritesOnOk}, Option.{option_copied}};
-ghost use Rattle.std.specs.Prelude.{◌≡◌, ◌+◌, ◌*◌, ◌<◌, ◌^◌, [], ◌∷◌, IfOk, is_some, length, true};
+ghost use Rattle.std.specs.Prelude.{◌≡◌, ◌+◌, ◌*◌, ◌<◌, ◌^◌, ◌++◌, [], ◌∷◌, IfOk, is_some, length, true};
 ghost use Rattle.iref_grammar.specs.{ComponentTexts.{spell_components}, Reference.{context_of}, Grammar.{colon}};
 ghost use Rattle.iref_grammar.specs.Texts.{part_then, then_part};
 ghost use Rattle.iref_model.specs.{fits, resolved};
@@ -16,7 +16,7 @@ use iref_parse::split::ReferenceSlices;
 use iref_path::measured::MeasuredPath;
 use iref_splice::Memory;
 use iref_splice::backward::Backward;
-use iref_splice::text::marked_len;
+use iref_splice::text::{marked, marked_after, marked_len};
 use iref_splice::unwritten::Unwritten;
 use std::alloc::{AllocError, Global};
 use std::fmt;
@@ -80,36 +80,13 @@ fn put_scheme<O: Backward>(out: &mut O, scheme: Option<&str>)
     }
 }
 
-// Writes a delimiter and a part to a formatter, or nothing.
-fn show_marked<W: fmt::Write>(
-    mark: &str,
-    part: Option<&str>,
-    f: &mut fmt::Formatter<W>,
-) -> fmt::Result
+// Writes two texts to a formatter.
+fn show_both<W: fmt::Write>(texts: (&str, &str), f: &mut fmt::Formatter<W>) -> fmt::Result
     ensures { WritesOnOk W.write_str_gives f.old result
-        (then_part mark.entry.now (option_copied part.entry)) f.new }
+        (texts.entry.0.now ++ texts.entry.1.now) f.new }
 {
-    match part {
-        Some(part) => {
-            f.write_str(mark)?;
-            f.write_str(part)
-        }
-        None => Ok(()),
-    }
-}
-
-// Writes a scheme and its delimiter to a formatter, or nothing.
-fn show_scheme<W: fmt::Write>(scheme: Option<&str>, f: &mut fmt::Formatter<W>) -> fmt::Result
-    ensures { WritesOnOk W.write_str_gives f.old result
-        (part_then (colon ∷ []) (option_copied scheme.entry)) f.new }
-{
-    match scheme {
-        Some(scheme) => {
-            f.write_str(scheme)?;
-            f.write_str(":")
-        }
-        None => Ok(()),
-    }
+    f.write_str(texts.0)?;
+    f.write_str(texts.1)
 }
 
 impl<'a> MeasuredReference<'a> {
@@ -186,11 +163,11 @@ impl<'a> MeasuredReference<'a> {
         ensures { WritesOnOk W.write_str_gives f.old result
             (spell_texts (measured_components self.now)) f.new }
     {
-        show_scheme(self.scheme, f)?;
-        show_marked("//", self.authority, f)?;
+        show_both(marked_after(self.scheme, ":"), f)?;
+        show_both(marked("//", self.authority), f)?;
         self.path.show(f)?;
-        show_marked("?", self.query, f)?;
-        show_marked("#", self.fragment, f)
+        show_both(marked("?", self.query), f)?;
+        show_both(marked("#", self.fragment), f)
     }
 }
 

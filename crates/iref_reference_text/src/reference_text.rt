@@ -11,11 +11,8 @@ ghost use Rattle.iref_reference_text.specs.RangeTexts.{AreWithin, texts_at};
 ghost use Rattle.iref_splice.specs.Changes.{IsWithin};
 
 mod authority;
-mod composed;
 mod copies;
 mod edits;
-mod hierarchy;
-mod mapping;
 mod path;
 
 use crate::base::base_slice;
@@ -81,6 +78,20 @@ impl<R: HeldRule, C: CharSet> Model for ReferenceText<R, C> {
 }
 
 impl<R: HeldRule, C: CharSet> ReferenceText<R, C> {
+    // The text, which is in the rule and has components of these lengths.
+    #[inline(always)]
+    fn with_lengths(text: String, lengths: Lengths) -> Self
+        requires in_rule { R.test C.tests (string_bytes text) ≡ true }
+        requires lengths { lengths ≡ lengths_of (read_reference (string_bytes text)) }
+        ensures { result ≡ string_bytes text }
+    {
+        ReferenceText {
+            text,
+            lengths,
+            rule: PhantomData,
+        }
+    }
+
     /// The text with the lengths of its components, if it is in the rule, or else the text itself.
     pub fn new(text: String) -> Result<Self, String>
         ensures { Parses (InUtf8 (R.rule C.tests)) (string_bytes text)
@@ -90,12 +101,7 @@ impl<R: HeldRule, C: CharSet> ReferenceText<R, C> {
             return Err(text);
         };
         let lengths = Lengths::of(slices);
-        let rule = PhantomData;
-        Ok(ReferenceText {
-            text,
-            lengths,
-            rule,
-        })
+        Ok(ReferenceText::with_lengths(text, lengths))
     }
 
     /// The text, which is known to be in the rule, with the lengths of its components.
@@ -105,12 +111,7 @@ impl<R: HeldRule, C: CharSet> ReferenceText<R, C> {
         ensures { result ≡ string_bytes text }
     {
         let lengths = Lengths::of(split_reference(text.as_str()));
-        let rule = PhantomData;
-        ReferenceText {
-            text,
-            lengths,
-            rule,
-        }
+        ReferenceText::with_lengths(text, lengths)
     }
 
     /// The text, which is known to be in the rule, with the lengths of these components, which are
@@ -120,13 +121,7 @@ impl<R: HeldRule, C: CharSet> ReferenceText<R, C> {
         requires slices { texts_of slices ≡ spell_components (read_reference (string_bytes text)) }
         ensures { result ≡ string_bytes text }
     {
-        let lengths = Lengths::of(slices);
-        let rule = PhantomData;
-        ReferenceText {
-            text,
-            lengths,
-            rule,
-        }
+        ReferenceText::with_lengths(text, Lengths::of(slices))
     }
 
     /// The text of these bytes of UTF-8, if it is in the rule, or the bytes.
@@ -220,12 +215,7 @@ impl<R: HeldRule, C: CharSet> ReferenceText<R, C> {
         ensures { result ≡ self }
     {
         let ReferenceText { text, lengths, .. } = self;
-        let rule = PhantomData;
-        ReferenceText {
-            text,
-            lengths,
-            rule,
-        }
+        ReferenceText::with_lengths(text, lengths)
     }
 
     /// The text, with no copy.

@@ -17,8 +17,8 @@ into_rule-requires g c = grind (arith, mapped-ascii c.args.self, none_escaped c.
 pub returns-then-escaped-eq0-clause-ok : goal.returns-then-escaped-eq0-clause-ok
 returns-then-escaped-eq0-clause-ok g c = grind (arith, mapped-ascii c.args.self, none_escaped c.args.self)
 
-pub from_utf8_unchecked-text-requires : goal.from_utf8_unchecked-text-requires
-from_utf8_unchecked-text-requires g c =
+pub from_utf8_unchecked-mapped-requires : goal.from_utf8_unchecked-mapped-requires
+from_utf8_unchecked-mapped-requires g c =
     in_rule_utf8 _ _ ((g.R.Rule.decided uri_chars uri_above_ascii c.map_in_place.new.bytes.items).0 (grind (arith, in_rule g)))
 
 pub new_unchecked-requires : goal.new_unchecked-requires

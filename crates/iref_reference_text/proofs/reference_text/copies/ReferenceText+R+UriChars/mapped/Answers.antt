@@ -1,7 +1,7 @@
 use Rattle.std.proofs.Common.{ap, ◌∙◌}
 use Rattle.iref_grammar.specs.Characters.{uri_chars}
 use Rattle.iref_reference_text.proofs.MappingLemmas.{mapping-in_rule}
-use Rattle.iref_reference_text.proofs.reference_text.mapping.ReferenceText+R+UriChars.mapped.Goals as goal
+use Rattle.iref_reference_text.proofs.reference_text.copies.ReferenceText+R+UriChars.mapped.Goals as goal
 
 pub new_unchecked-requires : goal.new_unchecked-requires
 new_unchecked-requires g c =
