@@ -9,4 +9,3 @@ pub mod ranges;
 pub mod status;
 pub mod store;
 pub mod texts;
-pub mod write;

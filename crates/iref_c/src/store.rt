@@ -1,10 +1,12 @@
-//! Reads two references, and writes a result where the caller wants it.
+//! Reads two references, and writes a result, a value or a text, where the caller wants it.
 ghost use Rattle.std.specs.Prelude.{◌≡◌, IfErr, IfOk, OnOk};
 ghost use Rattle.iref.specs.References.{reference_text};
-ghost use Rattle.iref_c.specs.Answers.{IsReference, ReportsInvalid};
+ghost use Rattle.iref_c.specs.Answers.{IsReference, IsWritten, ReportsInvalid};
 
-use crate::status::{INVALID, OK, SECOND_INVALID};
+use crate::status::{INVALID, OK, SECOND_INVALID, SHORT};
+use iref::chars::CharSet;
 use iref::iri::IriRef;
+use iref::rules::{Composed, HeldRule};
 
 /// The references of two texts, or the status of the first that is no reference.
 pub fn two_references<'a>(
@@ -28,5 +30,34 @@ pub fn store<V: Copy>(value: V, stored: &mut V) -> u32
     ensures stored { stored.new ≡ value }
 {
     *stored = value;
+    OK
+}
+
+/// Writes the text first into the buffer where there is room, and its length in any case.
+pub fn write_text(text: &[u8], out: &mut [u8], needed: &mut usize) -> u32
+    ensures { IsWritten text.now out.old out.new needed.new result }
+{
+    *needed = text.len();
+    if text.len() > out.len() {
+        return SHORT;
+    }
+    out[..text.len()].copy_from_slice(text);
+    OK
+}
+
+/// Writes a text that is composed: each byte is written into the buffer once.
+pub fn write_composed<R: HeldRule, C: CharSet>(
+    text: &Composed<'_, R, C>,
+    out: &mut [u8],
+    needed: &mut usize,
+) -> u32
+    ensures { IsWritten text.now out.old out.new needed.new result }
+{
+    let len = text.len();
+    *needed = len;
+    if len > out.len() {
+        return SHORT;
+    }
+    text.write_to(out);
     OK
 }

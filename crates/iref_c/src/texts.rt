@@ -10,7 +10,7 @@ ghost use Rattle.iref_c.specs.Answers.{IsReference, Writes, WritesIfSome};
 ghost use Rattle.iref.specs.PathSteps as step;
 
 use crate::status::{INVALID, MEMORY, NONE, SECOND_INVALID};
-use crate::write::{write_composed, write_text};
+use crate::store::{write_composed, write_text};
 use iref::iri::{IriParts, IriRef, IriRefParts, Path};
 use std::alloc::Global;
 

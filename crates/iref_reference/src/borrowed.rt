@@ -1,5 +1,7 @@
 //! Borrowed references (RFC 3986 sections 3 and 4.1).
-ghost use Rattle.std.specs.Prelude.{IfOk, IfSome, is_some, ◌≡◌, true, [], ◌∷◌, Some, None, option_map};
+ghost use Rattle.std.specs.Prelude.{IfOk, IfSome, is_some, ◌≡◌, ◌↔◌, true, [], ◌∷◌, Some, None, option_map};
+ghost use Rattle.iref_grammar.specs.{InUtf8};
+ghost use Rattle.iref_fault.specs.BytePlaces.{fault_value};
 ghost use Rattle.iref_component.specs.{text_of, spell_components, hierarchy, spell, hash_sign, spell_authority, before};
 ghost use Rattle.iref_component.specs.{with_query, with_fragment, user_info_of, host_of, port_of, base_of, spell_path};
 ghost use Rattle.iref_reference_text.specs.{AreComponents, is_readable, texts_of, value_of};
@@ -12,10 +14,12 @@ use crate::parts::{Parts, UriRefParts};
 use crate::rule::{HasScheme, ReferenceRule, UriRule};
 use iref_component::authority::Authority;
 use iref_component::borrowed::BorrowedText;
+use iref_component::faults::HasFault;
 use iref_component::named_texts::{Fragment, Host, Port, Query, UserInfo};
 use iref_component::path::Path;
 use iref_component::rule::{AllowsEmpty, Refuses};
 use iref_fault::InvalidUri;
+use iref_fault::fault::Fault;
 use iref_grammar::chars::CharSet;
 use iref_parse::cut::cut;
 use iref_parse::split::{ReferenceSlices, split_reference};
@@ -260,6 +264,28 @@ impl<R: HeldRule + AllowsEmpty, C: CharSet> Default for Reference<'_, R, C> {
 
     fn default() -> Self {
         Reference::empty()
+    }
+}
+
+impl<R: HeldRule + HasFault, C: CharSet> Reference<'_, R, C> {
+    /// Where the text is outside the rule, and why (RFC 3986 sections 3 and 4.1): `UriRef::fault`
+    /// of `a/b c` says that the path is invalid at byte 3, `Uri::fault` of `a/b` that there is no
+    /// scheme. There is none exactly where `new` takes the text.
+    pub fn fault(text: &str) -> Option<Fault>
+        ensures fault { option_map fault_value result ≡ R.fault_of C.tests text.now }
+        ensures none { (result ≡ None) ↔ InUtf8 (R.rule C.tests) text.now }
+    {
+        BorrowedText::<R, C>::fault(text)
+    }
+
+    /// Where the bytes are outside the rule, and why (RFC 3986 sections 3 and 4.1): first that they
+    /// are not UTF-8, as 255 alone is not, at 0. There is none exactly where `from_bytes` takes the
+    /// bytes.
+    pub fn fault_of_bytes(bytes: &[u8]) -> Option<Fault>
+        ensures fault { option_map fault_value result ≡ R.fault_of C.tests bytes.now }
+        ensures none { (result ≡ None) ↔ InUtf8 (R.rule C.tests) bytes.now }
+    {
+        BorrowedText::<R, C>::fault_of_bytes(bytes)
     }
 }
 

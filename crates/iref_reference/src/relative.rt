@@ -1,20 +1,44 @@
-//! References that lead from a base to a target, the way back from resolution (RFC 3986 section
-//! 5.2).
-ghost use Rattle.std.specs.Prelude.{◌≡◌, IfOk, true};
-ghost use Rattle.iref_model.specs.Relative.{relative_to};
+//! References that lead from a base to a target, the way back from resolution, the shortest that
+//! resolve to a text, character for character (RFC 3986 sections 4.2 and 5.2), and what is left of a
+//! reference after a prefix, both by their keys.
+ghost use Rattle.std.specs.Prelude.{◌≡◌, ◌&&◌, IfNone, IfOk, IfSome, IsNone, IsOk, option_map, true};
+ghost use Rattle.iref_model.specs.Relative.{have_same_authority, have_same_scheme, relative_to};
+ghost use Rattle.iref_model.specs.{ReferenceSuffix.{reference_suffix}, Relativized.{relativized}};
 ghost use Rattle.iref_reference_text.specs.{is_readable, Steps.{Spells}};
-ghost use Rattle.iref_reference.specs.{Parts.{parts_value, uri_ref_parts_value}, References.{reference_buf_text}};
-ghost use Rattle.iref_reference.specs.References.{reference_buf_value, reference_text, reference_value};
+ghost use Rattle.iref_reference.specs.Parts.{parts_value, uri_parts_value, uri_ref_parts_value};
+ghost use Rattle.iref_reference.specs.ReferenceSuffixes.{SpellsReferenceSuffix};
+ghost use Rattle.iref_reference.specs.References.{reference_buf_text, reference_buf_value, reference_text};
+ghost use Rattle.iref_reference.specs.References.{reference_value};
 ghost use Rattle.iref_reference.specs.Relatives.{ClimbsNoMore, IsRelative, LeadsThere, LeadsToTarget, WritesPathAlone};
+ghost use Rattle.iref_reference.specs.Shortest.{IsRelativized, NoneIsShorter, NoneLeads, led_text};
 
-use crate::borrowed::{Reference, UriRef};
+use crate::borrowed::{Reference, Uri, UriRef};
 use crate::composed::{Composed, ComposedUriRef};
-use crate::owned::{ReferenceBuf, UriRefBuf};
-use crate::parts::{Parts, SchemePart, UriRefParts};
+use crate::owned::{ReferenceBuf, UriBuf, UriRefBuf};
+use crate::parts::{Parts, SchemePart, UriParts, UriRefParts};
+use iref_component::named_texts::{Fragment, Query};
+use iref_component::path_buf::PathBuf;
 use iref_grammar::chars::CharSet;
 use iref_reference_text::reference_text::HeldRule;
 use iref_splice::Memory;
 use std::alloc::Global;
+
+/// What is left of a reference after a prefix, of its path, and its query and fragment: of `/a/b?q`
+/// after `/a` the path `b` and the query `q`.
+pub type Suffix<'a, C> = (PathBuf<C>, Option<Query<'a, C>>, Option<Fragment<'a, C>>);
+
+// Whether the schemes are equal, and the authorities.
+#[tactic(auto, using(iref_model::proofs::PartTieLemmas::parts_tested), unfolding(iref_model::specs::Key::key))]
+fn share_scheme_and_authority<C: CharSet>(
+    prefix: &UriRefParts<'_, C>,
+    parts: &UriRefParts<'_, C>,
+) -> bool
+    ensures { result
+        ≡ have_same_scheme (uri_ref_parts_value prefix.now) (uri_ref_parts_value parts.now)
+        && have_same_authority (uri_ref_parts_value prefix.now) (uri_ref_parts_value parts.now) }
+{
+    prefix.scheme == parts.scheme && prefix.authority == parts.authority
+}
 
 impl<'a, S: SchemePart<'a>, C: CharSet> Parts<'a, S, C> {
     /// What leads to the reference of these components from that of others, not written yet: from
@@ -52,6 +76,30 @@ impl<'a, R: HeldRule, C: CharSet> Reference<'a, R, C> {
         let reference = ComposedUriRef::<C>::relative_to(self.slices(), base.slices())?;
         reference.to_owned(alloc)
     }
+
+    /// What is left of the reference after a prefix: of `http://a/b/c?q#f` after `http://a/b?r` it
+    /// is the path `c`, with the query `q` and the fragment `f`. None where scheme or authority
+    /// differ, or the path has no such rest; that takes no memory.
+    pub fn suffix(
+        &self,
+        alloc: Global,
+        prefix: UriRef<'_, C>,
+    ) -> Result<Option<Suffix<'a, C>>, Memory>
+        ensures suffix { IfOk result
+            (SpellsReferenceSuffix (reference_value prefix.entry) (reference_value self.now)) }
+        ensures none { IsNone (reference_suffix
+            (reference_value prefix.entry) (reference_value self.now)) → IsOk result }
+    {
+        let prefix = prefix.reference_parts();
+        let parts = self.reference_parts();
+        if !share_scheme_and_authority(&prefix, &parts) {
+            return Ok(None);
+        }
+        let Some(path) = parts.path.suffix(alloc, prefix.path)? else {
+            return Ok(None);
+        };
+        Ok(Some((path, parts.query, parts.fragment)))
+    }
 }
 
 impl<R: HeldRule, C: CharSet> ReferenceBuf<R, C> {
@@ -69,5 +117,90 @@ impl<R: HeldRule, C: CharSet> ReferenceBuf<R, C> {
             (reference_value base.entry) (reference_buf_value answer)) }
     {
         self.as_reference().relative_to(alloc, base)
+    }
+
+    /// What is left of the reference after a prefix, as `suffix` of the borrowed reference.
+    pub fn suffix(
+        &self,
+        alloc: Global,
+        prefix: UriRef<'_, C>,
+    ) -> Result<Option<Suffix<'_, C>>, Memory>
+        ensures suffix { IfOk result
+            (SpellsReferenceSuffix (reference_value prefix.entry) (reference_buf_value self.now)) }
+        ensures none { IsNone (reference_suffix
+            (reference_value prefix.entry) (reference_buf_value self.now)) → IsOk result }
+    {
+        self.as_reference().suffix(alloc, prefix)
+    }
+}
+
+impl<'a, C: CharSet> UriParts<'a, C> {
+    /// The shortest reference that leads to the very text of the URI of these components, not written
+    /// yet: from `http://a/b/c/d` to `http://a/b/` it is `..`. `Memory` says that its length cannot be
+    /// counted. Components that were read from a text are readable.
+    pub fn relativized(
+        &self,
+        base: &UriParts<'a, C>,
+    ) -> Result<Option<ComposedUriRef<'a, C>>, Memory>
+        requires target { is_readable C.tests (uri_parts_value self.now) ≡ true }
+        requires base { is_readable C.tests (uri_parts_value base.now) ≡ true }
+        ensures { IfOk result
+            (IsRelativized (uri_parts_value self.now) (uri_parts_value base.now)) }
+    {
+        Composed::relativized(self.slices(), base.slices())
+    }
+}
+
+impl<'a, C: CharSet> Uri<'a, C> {
+    /// The shortest reference that resolves against the base to this very text, character for
+    /// character: from `http://a/b/c/d` to `http://a/b/` it is `..`, to `http://a/` it is `/`, and to
+    /// `http://g/x` it is `//g/x` (RFC 3986 sections 4.2 and 5.2).
+    ///
+    /// No reference that resolves to this text has fewer bytes. None means that no reference does:
+    /// resolution removes dot segments, so none leads to `http://a/x/../b` from `http://a/c`. Out of
+    /// memory, it returns `Memory`.
+    pub fn relativized(
+        &self,
+        alloc: Global,
+        base: Uri<'_, C>,
+    ) -> Result<Option<UriRefBuf<C>>, Memory>
+        ensures value { IfOk result (λ answer. option_map reference_buf_value answer
+            ≡ relativized (reference_value self.now) (reference_value base.entry)) }
+        ensures exact { IfOk result (λ answer. IfSome answer (λ reference.
+            led_text (reference_text base.entry) (reference_buf_text reference)
+            ≡ reference_text self.now)) }
+        ensures none { IfOk result (λ answer. IfNone answer
+            (NoneLeads C.tests (reference_text self.now) (reference_text base.entry))) }
+        ensures shortest { IfOk result (λ answer. IfSome answer (λ reference.
+            NoneIsShorter C.tests (reference_text self.now) (reference_text base.entry)
+            (reference_buf_text reference))) }
+    {
+        match ComposedUriRef::<C>::relativized(self.slices(), base.slices())? {
+            Some(reference) => Ok(Some(reference.to_owned(alloc)?)),
+            None => Ok(None),
+        }
+    }
+}
+
+impl<C: CharSet> UriBuf<C> {
+    /// The shortest reference that resolves against the base to this very text, as `relativized` of
+    /// the borrowed URI.
+    pub fn relativized(
+        &self,
+        alloc: Global,
+        base: Uri<'_, C>,
+    ) -> Result<Option<UriRefBuf<C>>, Memory>
+        ensures value { IfOk result (λ answer. option_map reference_buf_value answer
+            ≡ relativized (reference_buf_value self.now) (reference_value base.entry)) }
+        ensures exact { IfOk result (λ answer. IfSome answer (λ reference.
+            led_text (reference_text base.entry) (reference_buf_text reference)
+            ≡ reference_buf_text self.now)) }
+        ensures none { IfOk result (λ answer. IfNone answer
+            (NoneLeads C.tests (reference_buf_text self.now) (reference_text base.entry))) }
+        ensures shortest { IfOk result (λ answer. IfSome answer (λ reference.
+            NoneIsShorter C.tests (reference_buf_text self.now) (reference_text base.entry)
+            (reference_buf_text reference))) }
+    {
+        self.as_reference().relativized(alloc, base)
     }
 }

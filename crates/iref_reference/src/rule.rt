@@ -4,15 +4,19 @@ ghost use Rattle.std.proofs.Common.{sym, ◌∙◌};
 ghost use Rattle.iref_grammar.proofs.EmptyLemmas.{is_reference_empty};
 ghost use Rattle.iref_grammar.proofs.ReferenceRuleLemmas.{Decides-is_uri_reference, Decides-is_uri};
 ghost use Rattle.iref_grammar.proofs.ComponentLemmas.{reference_if_uri, scheme_if_uri, uri_if_scheme};
+ghost use Rattle.iref_fault.proofs.FaultLemmas.{no_fault_of_reference, reference_invalid, no_fault_of_uri, uri_invalid};
+ghost use Rattle.iref_fault.specs.Faults as spec;
 ghost use Rattle.iref_component.specs.{IsUri, IsUriReference, read_reference, is_reference, is_uri, Text, CharTests};
 ghost use Rattle.iref_reference_text.proofs.BaseLemmas.{base_of_in_rule, base_of_in_uri_rule};
 ghost use Rattle.iref_reference.specs.Comparisons.{by_components};
 
 use crate::parts::{SchemePart, UriRefParts};
 use iref_canonical::text::feed_reference;
+use iref_component::faults::HasFault;
 use iref_component::key::Key;
 use iref_component::named_texts::Scheme;
 use iref_component::rule::{AllowsEmpty, Refuses, Rule};
+use iref_fault::fault::{self, Fault};
 use iref_fault::{InvalidUri, InvalidUriRef};
 use iref_grammar::chars::CharSet;
 use iref_parse::split::{self, ReferenceSlices, parse_reference, split_reference};
@@ -88,6 +92,18 @@ impl<'a> HasScheme<'a> for ReferenceRule {
     ghost allowed = { λ _ _ _. record {} };
 }
 
+impl HasFault for ReferenceRule {
+    ghost fault_of = { spec.fault_of_reference };
+
+    ghost complete = { no_fault_of_reference };
+
+    ghost undecoded = { λ tests above. reference_invalid tests above };
+
+    fn fault<C: CharSet>(text: &str) -> Option<Fault> {
+        fault::fault_of_reference::<C>(text)
+    }
+}
+
 /// The rule of references with a scheme: `s:a` is in it, `../b` is not (RFC 3986 section 3).
 pub struct UriRule;
 
@@ -143,6 +159,18 @@ impl<'a> HasScheme<'a> for UriRule {
     type Scheme = Scheme<'a>;
 
     ghost allowed = { scheme_if_uri };
+}
+
+impl HasFault for UriRule {
+    ghost fault_of = { spec.fault_of_uri };
+
+    ghost complete = { no_fault_of_uri };
+
+    ghost undecoded = { λ tests above. uri_invalid tests above };
+
+    fn fault<C: CharSet>(text: &str) -> Option<Fault> {
+        fault::fault_of_uri::<C>(text)
+    }
 }
 
 /// The components, each as it is compared by itself: `HTTP://%61` and `http://a` have one key.

@@ -1,6 +1,8 @@
-//! Sort keys of references: bytes that stand in the order of the references.
-ghost use Rattle.std.specs.Prelude.{◌≡◌, ◌++◌, IfOk, OnErr, OnOk};
-ghost use Rattle.iref_canonical.specs.SortKey.{sort_key};
+//! Sort keys of references: bytes that stand in the order of the references, and the range in which a
+//! reference and all below it stand.
+ghost use Rattle.std.specs.{BTreeMap.Range.{IsLeBy}, Prelude.{◌≡◌, ◌++◌, IfOk, OnErr, OnOk}};
+ghost use Rattle.iref_grammar.specs.Keys.{text_order};
+ghost use Rattle.iref_canonical.specs.{SortKey.{sort_key}, SortPrefix.{sort_prefix, sort_prefix_end}};
 ghost use Rattle.iref_reference.specs.References.{key_of_reference, key_of_reference_buf};
 ghost use Rattle.iref_reference.specs.SortKeys.{SortsAs, SortsAsKeys};
 
@@ -8,11 +10,13 @@ use crate::borrowed::{Reference, Uri, UriRef};
 use crate::owned::ReferenceBuf;
 use iref_canonical::owned::SortKey;
 use iref_canonical::sort_key::{append_sort_key, sort_key};
+use iref_canonical::sort_prefix::{append_sort_prefix, sort_range};
 use iref_grammar::chars::CharSet;
 use iref_parse::split::split_reference;
 use iref_reference_text::reference_text::HeldRule;
 use iref_splice::Memory;
 use std::alloc::Global;
+use std::ops::Range;
 
 impl<R: HeldRule, C: CharSet> Reference<'_, R, C> {
     /// The sort key: sort keys stand, byte by byte and the shorter first, in the order of the
@@ -36,6 +40,35 @@ impl<R: HeldRule, C: CharSet> Reference<'_, R, C> {
         let text = self.as_str();
         append_sort_key(text, split_reference(text), bytes)
     }
+
+    /// The range in which the sort keys of all below the reference stand, that is of all that have a
+    /// `suffix` after it, and no others: for a `BTreeMap`, a sorted list, or `key >= ? AND key < ?`.
+    /// Below `http://h/docs` are it itself, `http://h/docs/a`, `http://h/docs?q` and
+    /// `HTTP://h/x/../docs/`, not `http://h/docsx`. Below `http://h/` is each URI of this authority
+    /// with an absolute path, below `http://h` only it itself with or without a query and a
+    /// fragment, and below `http://h/docs/`, which ends in an empty segment, not `http://h/docs/a`.
+    /// Out of memory, it returns `Memory`.
+    pub fn sort_range(&self, alloc: Global) -> Result<Range<SortKey>, Memory>
+        ensures start { IfOk result (λ range. range.start ≡ sort_prefix (key_of_reference self.now)) }
+        ensures end { IfOk result (λ range. range.end ≡ sort_prefix_end (key_of_reference self.now)) }
+        ensures forward { IfOk result (λ range. IsLeBy text_order range.start range.end) }
+    {
+        let text = self.as_str();
+        sort_range(alloc, text, split_reference(text))
+    }
+
+    /// Appends the sort prefix to a vector, with which the sort keys of all below the reference
+    /// begin, and no others: of `/a?q` the bytes 0, 0, 1, 1, 97 and 0. It is where `sort_range`
+    /// begins; the range ends before the prefix and the byte 2. Memory is requested once; out of
+    /// memory, it returns `Memory` and the vector is as it was.
+    pub fn append_sort_prefix_to(&self, bytes: &mut Vec<u8>) -> Result<(), Memory>
+        ensures ok { OnOk result (bytes.new.items
+            ≡ bytes.old.items ++ sort_prefix (key_of_reference self.now)) }
+        ensures err { OnErr result (bytes.new.items ≡ bytes.old.items) }
+    {
+        let text = self.as_str();
+        append_sort_prefix(text, split_reference(text), bytes)
+    }
 }
 
 impl<R: HeldRule, C: CharSet> ReferenceBuf<R, C> {
@@ -56,6 +89,30 @@ impl<R: HeldRule, C: CharSet> ReferenceBuf<R, C> {
         ensures err { OnErr result (bytes.new.items ≡ bytes.old.items) }
     {
         append_sort_key(self.as_str(), self.inner.slices(), bytes)
+    }
+
+    /// The range in which the sort keys of all below the reference stand, as of the borrowed value:
+    /// of `http://h/docs` that in which `http://h/docs/a` is, not `http://h/docsx`. Out of memory, it
+    /// returns `Memory`.
+    pub fn sort_range(&self, alloc: Global) -> Result<Range<SortKey>, Memory>
+        ensures start { IfOk result
+            (λ range. range.start ≡ sort_prefix (key_of_reference_buf self.now)) }
+        ensures end { IfOk result
+            (λ range. range.end ≡ sort_prefix_end (key_of_reference_buf self.now)) }
+        ensures forward { IfOk result (λ range. IsLeBy text_order range.start range.end) }
+    {
+        sort_range(alloc, self.as_str(), self.inner.slices())
+    }
+
+    /// Appends the sort prefix to a vector, as of the borrowed value: of `/a?q` the bytes 0, 0, 1,
+    /// 1, 97 and 0. Memory is requested once; out of memory, it returns `Memory` and the vector is
+    /// as it was.
+    pub fn append_sort_prefix_to(&self, bytes: &mut Vec<u8>) -> Result<(), Memory>
+        ensures ok { OnOk result (bytes.new.items
+            ≡ bytes.old.items ++ sort_prefix (key_of_reference_buf self.now)) }
+        ensures err { OnErr result (bytes.new.items ≡ bytes.old.items) }
+    {
+        append_sort_prefix(self.as_str(), self.inner.slices(), bytes)
     }
 }
 

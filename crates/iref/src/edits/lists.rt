@@ -11,8 +11,8 @@ use crate::edits::parts::{edit_authority, edit_path};
 use crate::edits::schemes::SetsScheme;
 use crate::edits::{Edit, EditFault};
 use iref_grammar::chars::CharSet;
-use iref_reference::hierarchy::{copied_hierarchy, reserve};
 use iref_reference::owned::{ReferenceBuf, UriBuf, UriRefBuf};
+use iref_reference::setters::{copied_hierarchy, reserve};
 use iref_splice::Memory;
 
 // A copy is taken where this many edits have changed the length, and as many follow that leave the

@@ -3,7 +3,7 @@ use Rattle.iref_grammar.specs.Characters.{iri_chars, uri_chars, uri_above_ascii}
 use Rattle.iref_model.specs.Mapping.{mapped}
 use Rattle.iref_reference.specs.References.{reference_text, reference_buf_text}
 use Rattle.iref_reference.proofs.MappingLemmas.{kept}
-use Rattle.iref_reference.proofs.mapping.Reference+R+IriChars.mapped.Goals as goal
+use Rattle.iref_reference.proofs.conversions.Reference+R+IriChars.mapped.Goals as goal
 
 pub returns : goal.returns
 returns g c =

@@ -2,7 +2,7 @@ use Rattle.std.proofs.Common.{◌≡◌, ◌∙◌, true, rules}
 use Rattle.iref_grammar.specs.Characters.{iri_chars, uri_chars, uri_above_ascii}
 use Rattle.iref_reference.specs.References.{reference_buf_text}
 use Rattle.iref_reference.proofs.MappingLemmas.{kept}
-use Rattle.iref_reference.proofs.mapping.ReferenceBuf+R+IriChars.into_mapped.Goals as goal
+use Rattle.iref_reference.proofs.conversions.ReferenceBuf+R+IriChars.into_mapped.Goals as goal
 
 pub returns-in-Ok-clause-ok : goal.returns-in-Ok-clause-ok
 returns-in-Ok-clause-ok g c =

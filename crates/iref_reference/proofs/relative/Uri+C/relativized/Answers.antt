@@ -3,7 +3,7 @@ use Rattle.iref_grammar.specs.Reference.{ReferenceValue, read_reference}
 use Rattle.iref_model.specs.{Relativized.{relativized}, RelativizedLaws.{AreReadable}}
 use Rattle.iref_reference.specs.References.{reference_buf_text, reference_text}
 use Rattle.iref_reference.proofs.ShortestLemmas.{answer_leads, none_is_shorter, none_leads}
-use Rattle.iref_reference.proofs.relativized.Uri+C.relativized.Goals as goal
+use Rattle.iref_reference.proofs.relative.Uri+C.relativized.Goals as goal
 
 pub relativized-requires-clause-full : goal.relativized-requires-clause-full
 relativized-requires-clause-full g c = ap (λ (r : ReferenceValue). is_some r.scheme) c.slices.ensures.value ∙ c.slices.ensures.allowed
