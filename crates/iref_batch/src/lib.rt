@@ -14,6 +14,7 @@ pub mod run_laws;
 mod streams;
 
 use lines::Lines;
+pub use lines::{Begun, empty};
 use std::alloc::Global;
 pub use streams::{FromStd, Sink, Source, StreamError};
 use thiserror::Error;

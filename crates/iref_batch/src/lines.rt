@@ -18,7 +18,7 @@ const KEPT: usize = 1 << 17;
 
 /// Empties the buffer. Room that it took for one long line is given back, so that a later line
 /// finds it.
-fn empty(bytes: &mut Vec<u8>)
+pub fn empty(bytes: &mut Vec<u8>)
     ensures { bytes.new.items ≡ [] }
 {
     bytes.clear();
@@ -117,7 +117,7 @@ pub struct Begun {
 
 impl Begun {
     /// No byte of a line came in.
-    fn is_empty(&self) -> bool
+    pub fn is_empty(&self) -> bool
         ensures nothing { result ≡ true → IsNothing self.now }
         ensures some { result ≡ false → self.now.is_refused ≡ false →
             is_empty self.now.bytes.items ≡ false }
@@ -126,7 +126,7 @@ impl Begun {
     }
 
     /// Keeps more bytes of the line.
-    fn keep(&mut self, more: &[u8])
+    pub fn keep(&mut self, more: &[u8])
         ensures works { self.new.is_refused ≡ false → self.old.is_refused ≡ false }
         ensures kept { self.new.is_refused ≡ false →
             self.new.bytes.items ≡ self.old.bytes.items ++ more.now }

@@ -58,8 +58,8 @@ impl Fault {
     }
 }
 
-// What a component is called in print.
-fn name(component: Component) -> &'static str
+/// What a component is called in print: `Component::UserInfo` is `user info`.
+pub fn name(component: Component) -> &'static str
     ensures { result.now ≡ component_name component }
 {
     match component {

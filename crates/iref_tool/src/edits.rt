@@ -6,6 +6,7 @@ use iref::chars::CharSet;
 use iref::iri::{Edit, EditFault, IriRef, apply_all};
 use iref::rules::BorrowedText;
 use iref_component::faults::HasFault;
+use iref_parse::cut::cut;
 use std::alloc::Global;
 
 // A word as it is read: a name, and a value if there is one.
@@ -18,22 +19,12 @@ struct Field<'a> {
 
 impl<'a> Field<'a> {
     fn new(word: &'a str) -> Self {
-        match word.split_once('=') {
-            Some((name, value)) => Field {
-                word,
-                name,
-                value: Some(value),
-            },
-            None => Field {
-                word,
-                name: word,
-                value: None,
-            },
-        }
+        let (name, value) = cut(word, '=');
+        Field { word, name, value }
     }
 
     fn refused(&self, reason: Reason) -> Refusal<'a> {
-        Refusal::new("EDIT", self.word, reason)
+        Refusal::Word("EDIT", self.word, reason)
     }
 
     // The value, if there is one and it is in the rule.
@@ -120,7 +111,7 @@ pub fn edited<'a>(
         Ok(()) => Ok(edited.into_string()),
         Err((_, EditFault::Memory)) => Err(Refusal::Memory),
         Err((at, _)) => match words.get(at) {
-            Some(word) => Err(Refusal::new("EDIT", *word, Reason::NoAuthority)),
+            Some(word) => Err(Refusal::Word("EDIT", *word, Reason::NoAuthority)),
             None => Err(Refusal::Memory),
         },
     }

@@ -2,8 +2,8 @@
 //! is empty.
 ghost use Rattle.std.specs.Prelude.{◌≡◌, ◌++◌, ◌∷◌, IfSome};
 
-use crate::buffer::empty;
 use crate::output::WriteFailed;
+use iref_batch::{Begun, empty};
 use memchr::memchr;
 use std::alloc::Global;
 use std::io::{self, Read};
@@ -56,59 +56,34 @@ fn cut_line(text: &[u8]) -> Option<(&[u8], &[u8])>
     Some((&text[..at], &text[at + 1..]))
 }
 
-// The beginning of a line, unless memory was refused for it.
-#[derive(Drop)]
-struct Begun {
-    bytes: Vec<u8>,
-    is_refused: bool,
+// Gives away the line that ends with these bytes, and begins the next.
+fn end_line<T: TakesLines>(begun: &mut Begun, tail: &[u8], to: &mut T) -> Result<(), WriteFailed> {
+    if begun.is_empty() {
+        return to.take(tail);
+    }
+    begun.keep(tail);
+    if begun.is_refused {
+        begun.is_refused = false;
+        return to.refuse();
+    }
+    to.take(begun.bytes.as_slice())?;
+    empty(&mut begun.bytes);
+    Ok(())
 }
 
-impl Begun {
-    fn new(alloc: Global) -> Self {
-        Begun {
-            bytes: Vec::new(alloc),
-            is_refused: false,
-        }
+// Gives away each line that ends in the block.
+fn take_block<T: TakesLines>(
+    begun: &mut Begun,
+    block: &[u8],
+    to: &mut T,
+) -> Result<(), WriteFailed> {
+    let mut rest = block;
+    while let Some((tail, more)) = cut_line(rest) {
+        end_line(begun, tail, to)?;
+        rest = more;
     }
-
-    // Whether no byte of a line came in.
-    fn is_empty(&self) -> bool {
-        !self.is_refused && self.bytes.is_empty()
-    }
-
-    // Keeps more bytes of the line.
-    fn keep(&mut self, more: &[u8]) {
-        if !self.is_refused && self.bytes.extend_from_slice(more).is_err() {
-            empty(&mut self.bytes);
-            self.is_refused = true;
-        }
-    }
-
-    // Gives away the line that ends with these bytes, and begins the next.
-    fn end_line<T: TakesLines>(&mut self, tail: &[u8], to: &mut T) -> Result<(), WriteFailed> {
-        if self.is_empty() {
-            return to.take(tail);
-        }
-        self.keep(tail);
-        if self.is_refused {
-            self.is_refused = false;
-            return to.refuse();
-        }
-        to.take(self.bytes.as_slice())?;
-        empty(&mut self.bytes);
-        Ok(())
-    }
-
-    // Gives away each line that ends in the block.
-    fn take_block<T: TakesLines>(&mut self, block: &[u8], to: &mut T) -> Result<(), WriteFailed> {
-        let mut rest = block;
-        while let Some((tail, more)) = cut_line(rest) {
-            self.end_line(tail, to)?;
-            rest = more;
-        }
-        self.keep(rest);
-        Ok(())
-    }
+    begun.keep(rest);
+    Ok(())
 }
 
 /// Gives each line of the input away, up to its end.
@@ -117,18 +92,20 @@ pub fn each_line<R: Read, T: TakesLines>(
     reader: &mut R,
     to: &mut T,
 ) -> Result<(), Failure> {
-    let mut begun = Begun::new(alloc);
+    let bytes = Vec::new(alloc);
+    let is_refused = false;
+    let mut begun = Begun { bytes, is_refused };
     let mut block = [0u8; BLOCK];
     for _reads in 0..u64::MAX {
         let n = reader.read(&mut block)?;
         if n == 0 {
             break;
         }
-        begun.take_block(&block[..n], to)?;
+        take_block(&mut begun, &block[..n], to)?;
         to.pause(n)?;
     }
     if !begun.is_empty() {
-        begun.end_line(&[], to)?;
+        end_line(&mut begun, &[], to)?;
     }
     to.pause(0)?;
     Ok(())

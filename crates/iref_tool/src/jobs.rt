@@ -36,7 +36,9 @@ pub trait Job {
     fn answer(&mut self, line: &[u8], out: &mut Vec<u8>) -> Result<(), LineFault>;
 
     /// Whether what is wrong is the answer, and goes where answers go.
-    fn is_report(&self) -> bool;
+    fn is_report(&self) -> bool {
+        false
+    }
 }
 
 impl From<Fault> for LineFault {
@@ -59,11 +61,6 @@ fn reference(line: &[u8]) -> Result<IriRef<'_>, Fault> {
     read(line)
 }
 
-// The line as an IRI.
-fn iri(line: &[u8]) -> Result<Iri<'_>, Fault> {
-    read(line)
-}
-
 /// Whether the line follows its answer, behind a TAB.
 #[derive(Clone, Copy)]
 pub struct Keep(pub bool);
@@ -80,30 +77,21 @@ impl Keep {
     }
 }
 
-/// What lines are to be.
+/// Finds the lines that are outside a rule: that of IRI references, or of those with the characters
+/// of URIs alone, or with a scheme.
 #[derive(Clone, Copy)]
-pub enum Rule {
-    /// References of IRIs.
-    IriRef,
-    /// IRIs.
-    Iri,
-    /// References of URIs.
-    UriRef,
-    /// URIs.
-    Uri,
+pub struct Check {
+    pub uri: bool,
+    pub absolute: bool,
 }
-
-/// Finds the lines that are outside a rule.
-#[derive(Clone, Copy)]
-pub struct Check(pub Rule);
 
 impl Job for Check {
     fn answer(&mut self, line: &[u8], _out: &mut Vec<u8>) -> Result<(), LineFault> {
-        let fault = match self.0 {
-            Rule::IriRef => IriRef::fault_of_bytes(line),
-            Rule::Iri => Iri::fault_of_bytes(line),
-            Rule::UriRef => UriRef::fault_of_bytes(line),
-            Rule::Uri => Uri::fault_of_bytes(line),
+        let fault = match (self.uri, self.absolute) {
+            (false, false) => IriRef::fault_of_bytes(line),
+            (false, true) => Iri::fault_of_bytes(line),
+            (true, false) => UriRef::fault_of_bytes(line),
+            (true, true) => Uri::fault_of_bytes(line),
         };
         match fault {
             None => Ok(()),
@@ -138,10 +126,6 @@ impl Job for Canonical {
         let canonical = reference.canonical_in(&mut self.buffer)?;
         Ok(self.keep.push(canonical.as_bytes(), line, out)?)
     }
-
-    fn is_report(&self) -> bool {
-        false
-    }
 }
 
 /// Writes sort keys, in hexadecimal digits.
@@ -154,10 +138,6 @@ impl Job for Key {
         let digits = encode(*out.allocator(), key.as_bytes()).or(Err(Memory))?;
         Ok(self.0.push(digits.as_bytes(), line, out)?)
     }
-
-    fn is_report(&self) -> bool {
-        false
-    }
 }
 
 /// Resolves references against a base.
@@ -169,10 +149,6 @@ impl Job for Resolve<'_> {
         let uri = reference(line)?.resolved(*out.allocator(), self.0)?;
         Ok(self.1.push(uri.as_bytes(), line, out)?)
     }
-
-    fn is_report(&self) -> bool {
-        false
-    }
 }
 
 /// Writes the shortest references from a base to targets.
@@ -181,14 +157,11 @@ pub struct Relativize<'a>(pub Iri<'a>, pub Keep);
 
 impl Job for Relativize<'_> {
     fn answer(&mut self, line: &[u8], out: &mut Vec<u8>) -> Result<(), LineFault> {
-        let Some(reference) = iri(line)?.relativized(*out.allocator(), self.0)? else {
+        let target: Iri<'_> = read(line)?;
+        let Some(reference) = target.relativized(*out.allocator(), self.0)? else {
             return Err(LineFault::NoReference);
         };
         Ok(self.1.push(reference.as_bytes(), line, out)?)
-    }
-
-    fn is_report(&self) -> bool {
-        false
     }
 }
 
@@ -204,10 +177,8 @@ impl Below {
     pub fn new(alloc: Global, reference: IriRef<'_>) -> Result<Self, Memory> {
         let mut prefix = Vec::new(alloc);
         reference.append_sort_prefix_to(&mut prefix)?;
-        Ok(Below {
-            prefix,
-            key: Vec::new(alloc),
-        })
+        let key = Vec::new(alloc);
+        Ok(Below { prefix, key })
     }
 }
 
@@ -221,10 +192,6 @@ impl Job for Below {
         }
         Ok(())
     }
-
-    fn is_report(&self) -> bool {
-        false
-    }
 }
 
 /// Writes the lines that are equal to none before them.
@@ -236,9 +203,8 @@ pub struct Unique {
 impl Unique {
     /// Before the first line.
     pub fn new(alloc: Global) -> Self {
-        Unique {
-            seen: BTreeSet::new(alloc),
-        }
+        let seen = BTreeSet::new(alloc);
+        Unique { seen }
     }
 }
 
@@ -249,10 +215,6 @@ impl Job for Unique {
             push_line(out, line)?;
         }
         Ok(())
-    }
-
-    fn is_report(&self) -> bool {
-        false
     }
 }
 
@@ -265,9 +227,8 @@ pub struct Sort {
 impl Sort {
     /// Before the first line.
     pub fn new(alloc: Global) -> Self {
-        Sort {
-            text: Vec::new(alloc),
-        }
+        let text = Vec::new(alloc);
+        Sort { text }
     }
 
     /// The lines in order of their keys, those that are equal in the order in which they came.
@@ -287,9 +248,5 @@ impl Job for Sort {
     fn answer(&mut self, line: &[u8], _out: &mut Vec<u8>) -> Result<(), LineFault> {
         reference(line)?;
         Ok(push_line(&mut self.text, line)?)
-    }
-
-    fn is_report(&self) -> bool {
-        false
     }
 }

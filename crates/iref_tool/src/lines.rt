@@ -1,12 +1,12 @@
 //! The lines of `iref_cli` and those of the examples, each answered by a line.
 
-use crate::buffer::{GATHERED, empty, push_line};
+use crate::buffer::{GATHERED, push_line};
 use crate::examples::{Tables, answer, is_of_examples};
 use crate::input::TakesLines;
 use crate::output::{Output, WriteFailed};
 use crate::progress::Progress;
 use iref::Memory;
-use iref_batch::{FromStd, run};
+use iref_batch::{FromStd, empty, run};
 use std::alloc::Global;
 use std::io::Write;
 

@@ -24,10 +24,10 @@ mod words;
 
 use clap::error::ErrorKind;
 use output::Status;
-use run::{output_failed, run_task};
+use run::{output_failed, run_command};
 use std::process::ExitCode;
 use std::{env, io};
-use words::{command, task_of};
+use words::command;
 
 // Says what was done wrong with the words.
 fn misuse(rt: &HostRuntime, what: &str) -> ExitCode {
@@ -38,8 +38,12 @@ fn misuse(rt: &HostRuntime, what: &str) -> ExitCode {
 // Does what the words ask for.
 fn run_words(rt: &HostRuntime, words: &[String]) -> Result<ExitCode, clap::Error> {
     let matches = command(rt.alloc())?.try_get_matches_from(words)?;
-    match task_of(&matches) {
-        Some(task) => Ok(run_task(rt, task)),
+    let status = match matches.subcommand() {
+        Some((name, inner)) => run_command(rt, name, inner),
+        None => None,
+    };
+    match status {
+        Some(status) => Ok(ExitCode::from(status)),
         None => Ok(misuse(rt, "two texts are wanted, or --base and files")),
     }
 }

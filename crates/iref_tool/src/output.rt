@@ -73,32 +73,31 @@ impl<W: Write> Output<W> {
 
     /// Writes a line at once.
     pub fn print<T: Display>(&mut self, line: &T) -> Result<(), WriteFailed> {
-        match writeln!(self.inner, "{line}") {
-            Ok(()) => Ok(()),
-            Err(error) => self.failed(error),
-        }
+        let done = writeln!(self.inner, "{line}");
+        self.ended(done)
     }
 
     /// Writes all of the bytes.
     pub fn put(&mut self, bytes: &[u8]) -> Result<(), WriteFailed> {
-        match self.inner.write_all(bytes) {
-            Ok(()) => Ok(()),
-            Err(error) => self.failed(error),
-        }
+        let done = self.inner.write_all(bytes);
+        self.ended(done)
     }
 
     /// Writes what the writer keeps.
     pub fn flush(&mut self) -> Result<(), WriteFailed> {
-        match self.inner.flush() {
-            Ok(()) => Ok(()),
-            Err(error) => self.failed(error),
-        }
+        let done = self.inner.flush();
+        self.ended(done)
     }
 
-    // Keeps why a write has failed.
-    fn failed(&mut self, error: io::Error) -> Result<(), WriteFailed> {
-        self.failure = Some(error);
-        Err(WriteFailed)
+    // Keeps why a write has failed, if it has.
+    fn ended(&mut self, done: io::Result<()>) -> Result<(), WriteFailed> {
+        match done {
+            Ok(()) => Ok(()),
+            Err(error) => {
+                self.failure = Some(error);
+                Err(WriteFailed)
+            }
+        }
     }
 }
 

@@ -2,22 +2,10 @@
 ghost use Rattle.std.specs.Prelude.{◌≡◌, ◌+◌, ◌≤◌, length};
 ghost use Rattle.iref_tool.specs.Columns.{begins_char as is_first_byte, chars_in_first};
 
-use iref::{Cause, Component, Fault};
+use iref::{Cause, Fault};
+use iref_fault::fault::name;
 use std::fmt;
 use unicode_width::UnicodeWidthStr;
-
-// What a component is called in print.
-fn name(component: Component) -> &'static str {
-    match component {
-        Component::Scheme => "scheme",
-        Component::UserInfo => "user info",
-        Component::Host => "host",
-        Component::Port => "port",
-        Component::Path => "path",
-        Component::Query => "query",
-        Component::Fragment => "fragment",
-    }
-}
 
 /// Why a text is refused, without the place: `invalid host: ' '`, `no scheme`, `not UTF-8`.
 #[derive(Clone, Copy)]

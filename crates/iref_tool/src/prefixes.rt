@@ -12,15 +12,16 @@ const ENTRY: &str = "LABEL=IRI";
 // Adds the entry of a word to the table.
 fn insert<'a>(table: &mut Prefixes, word: &'a str) -> Result<(), Refusal<'a>> {
     let Some((label, text)) = word.split_once('=') else {
-        return Err(Refusal::new(ENTRY, word, Reason::NoEntry));
+        return Err(Refusal::Word(ENTRY, word, Reason::NoEntry));
     };
     let iri = iri_at_end(ENTRY, word, text)?;
-    match table.insert(label, iri) {
-        Ok(()) => Ok(()),
-        Err(PrefixFault::BadLabel(labels)) => Err(Refusal::new(ENTRY, word, Reason::Label(labels))),
-        Err(PrefixFault::Taken) => Err(Refusal::new(ENTRY, word, Reason::Taken)),
-        Err(PrefixFault::Memory) => Err(Refusal::Memory),
-    }
+    let reason = match table.insert(label, iri) {
+        Ok(()) => return Ok(()),
+        Err(PrefixFault::BadLabel(labels)) => Reason::Label(labels),
+        Err(PrefixFault::Taken) => Reason::Taken,
+        Err(PrefixFault::Memory) => return Err(Refusal::Memory),
+    };
+    Err(Refusal::Word(ENTRY, word, reason))
 }
 
 // The table of the entries.
@@ -41,7 +42,7 @@ pub fn compacted<'a>(
     let table = table_of(alloc, entries)?;
     match table.compact(iri) {
         Some(short) => Ok(short.to_text(alloc)?),
-        None => Err(Refusal::new("IRI", iri.as_str(), Reason::NoPrefix)),
+        None => Err(Refusal::Word("IRI", iri.as_str(), Reason::NoPrefix)),
     }
 }
 
@@ -55,8 +56,8 @@ pub fn expanded<'a>(
     match table.expand(alloc, text) {
         Ok(iri) => Ok(iri.into_string()),
         Err(ExpandFault::Memory) => Err(Refusal::Memory),
-        Err(ExpandFault::NoColon) => Err(Refusal::new("TEXT", text, Reason::NoColon)),
-        Err(ExpandFault::UnknownLabel) => Err(Refusal::new("TEXT", text, Reason::UnknownLabel)),
-        Err(ExpandFault::NotAnIri) => Err(Refusal::new("TEXT", text, Reason::NotAnIri)),
+        Err(ExpandFault::NoColon) => Err(Refusal::Word("TEXT", text, Reason::NoColon)),
+        Err(ExpandFault::UnknownLabel) => Err(Refusal::Word("TEXT", text, Reason::UnknownLabel)),
+        Err(ExpandFault::NotAnIri) => Err(Refusal::Word("TEXT", text, Reason::NotAnIri)),
     }
 }

@@ -38,14 +38,9 @@ impl<E: Write> Progress<E> {
         }
     }
 
-    /// So many bytes more are read.
+    /// So many bytes more are read. Says how far the input is read, unless the terminal shows it.
     pub fn advance(&mut self, bytes: usize) {
         self.read = self.read.saturating_add(bytes as u64);
-        self.show();
-    }
-
-    /// Says how far the input is read, unless the terminal shows it.
-    pub fn show(&mut self) {
         let Some(whole) = self.whole else {
             return;
         };

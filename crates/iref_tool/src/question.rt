@@ -4,38 +4,21 @@ use crate::edits::edited;
 use crate::prefixes::{compacted, expanded};
 use crate::read::{component, iri, reference};
 use crate::refusal::{Reason, Refusal};
+use crate::words::{word_of, words_of};
+use clap::ArgMatches;
 use iref::Memory;
+use iref::chars::CharSet;
 use iref::iri::{IriRef, Path};
+use iref::rules::{BorrowedText, Rule};
 use std::alloc::Global;
 
-/// What is asked.
-#[derive(Clone, Copy)]
-pub enum Question<'a> {
-    /// The components of a reference.
-    Parts(&'a str),
-    /// The normal form of a path.
-    Normal(&'a str),
-    /// Whether two references are equal.
-    Equal(&'a str, &'a str),
-    /// What a reference resolves to against a base, the second.
-    Resolve(&'a str, &'a str),
-    /// What leads from a base, the second, to a target.
-    Relative(&'a str, &'a str),
-    /// The shortest reference that leads from a base, the second, to the text of a target.
-    Relativize(&'a str, &'a str),
-    /// What a reference is after edits.
-    Edit(&'a str, &'a [&'a str]),
-    /// The reference of URIs that a reference maps to.
-    ToUri(&'a str),
-    /// An IRI made short by entries, `LABEL=IRI` each.
-    Compact(&'a str, &'a [&'a str]),
-    /// The IRI that a text stands for by entries.
-    Expand(&'a str, &'a [&'a str]),
-}
-
 // Adds a line for a component, if it is there.
-fn push_part(lines: &mut String, name: &str, text: Option<&str>) -> Result<(), Memory> {
-    let Some(text) = text else {
+fn push_part<R: Rule, C: CharSet>(
+    lines: &mut String,
+    name: &str,
+    part: Option<BorrowedText<'_, R, C>>,
+) -> Result<(), Memory> {
+    let Some(part) = part else {
         return Ok(());
     };
     if !lines.is_empty() {
@@ -43,7 +26,7 @@ fn push_part(lines: &mut String, name: &str, text: Option<&str>) -> Result<(), M
     }
     lines.push_str(name)?;
     lines.push_str(": ")?;
-    lines.push_str(text)?;
+    lines.push_str(part.as_str())?;
     Ok(())
 }
 
@@ -51,26 +34,38 @@ fn push_part(lines: &mut String, name: &str, text: Option<&str>) -> Result<(), M
 fn parts(alloc: Global, reference: IriRef<'_>) -> Result<String, Memory> {
     let mut lines = String::new(alloc);
     let parts = reference.parts();
-    push_part(&mut lines, "scheme", parts.scheme.map(|it| it.as_str()))?;
-    push_part(
-        &mut lines,
-        "authority",
-        parts.authority.map(|it| it.as_str()),
-    )?;
+    push_part(&mut lines, "scheme", parts.scheme)?;
+    push_part(&mut lines, "authority", parts.authority)?;
     if let Some(authority) = parts.authority {
         let inner = authority.parts();
-        push_part(
-            &mut lines,
-            "user info",
-            inner.user_info.map(|it| it.as_str()),
-        )?;
-        push_part(&mut lines, "host", Some(inner.host.as_str()))?;
-        push_part(&mut lines, "port", inner.port.map(|it| it.as_str()))?;
+        push_part(&mut lines, "user info", inner.user_info)?;
+        push_part(&mut lines, "host", Some(inner.host))?;
+        push_part(&mut lines, "port", inner.port)?;
     }
-    push_part(&mut lines, "path", Some(parts.path.as_str()))?;
-    push_part(&mut lines, "query", parts.query.map(|it| it.as_str()))?;
-    push_part(&mut lines, "fragment", parts.fragment.map(|it| it.as_str()))?;
+    push_part(&mut lines, "path", Some(parts.path))?;
+    push_part(&mut lines, "query", parts.query)?;
+    push_part(&mut lines, "fragment", parts.fragment)?;
     Ok(lines)
+}
+
+// The word of an argument as a reference of IRIs.
+fn reference_of<'m, 'w: 'm>(
+    matches: &'m ArgMatches<'w>,
+    id: &'static str,
+) -> Result<IriRef<'m>, Refusal<'m>> {
+    reference(id, word_of(matches, id))
+}
+
+// The normal form of a path.
+fn normal<'a>(alloc: Global, word: &'a str) -> Result<String, Refusal<'a>> {
+    let path: Path<'_> = component("PATH", "path", word, word)?;
+    Ok(path.normalized(alloc)?.into_string())
+}
+
+// What a reference resolves to against a base.
+fn resolved<'a>(alloc: Global, word: &'a str, base: &'a str) -> Result<String, Refusal<'a>> {
+    let reference = reference("REFERENCE", word)?;
+    Ok(reference.resolved(alloc, iri("BASE", base)?)?.into_string())
 }
 
 // The shortest reference from a base to the text of a target.
@@ -78,38 +73,47 @@ fn relativized<'a>(alloc: Global, target: &'a str, base: &'a str) -> Result<Stri
     let from = iri("BASE", base)?;
     match iri("TARGET", target)?.relativized(alloc, from)? {
         Some(reference) => Ok(reference.into_string()),
-        None => Err(Refusal::new("TARGET", target, Reason::NoReference)),
+        None => Err(Refusal::Word("TARGET", target, Reason::NoReference)),
     }
 }
 
-/// The answer, of one line but for the components; else which word has none, and why.
-pub fn answer<'a>(alloc: Global, question: Question<'a>) -> Result<String, Refusal<'a>> {
-    match question {
-        Question::Parts(word) => Ok(parts(alloc, reference("URI", word)?)?),
-        Question::Normal(word) => {
-            let path: Path<'_> = component("PATH", "path", word, word)?;
-            Ok(path.normalized(alloc)?.into_string())
+/// The answer, of one line but for the components; else which word has none, and why. None where
+/// the command has no such answer, or `resolve` and `relativize` other words than two.
+pub fn answer<'m, 'w: 'm>(
+    alloc: Global,
+    name: &str,
+    matches: &'m ArgMatches<'w>,
+) -> Result<Option<String>, Refusal<'m>> {
+    let answer = match (name, matches.get_str("base"), words_of(matches, "WORD")) {
+        ("parts", _, _) => parts(alloc, reference_of(matches, "URI")?)?,
+        ("normal", _, _) => normal(alloc, word_of(matches, "PATH"))?,
+        ("equal", _, _) => {
+            let equal = reference_of(matches, "FIRST")? == reference_of(matches, "SECOND")?;
+            String::from_str(alloc, if equal { "yes" } else { "no" }).or(Err(Memory))?
         }
-        Question::Equal(first, second) => {
-            let equal = reference("FIRST", first)? == reference("SECOND", second)?;
-            Ok(String::from_str(alloc, if equal { "yes" } else { "no" }).or(Err(Memory))?)
+        ("relative", _, _) => {
+            let target = reference_of(matches, "TARGET")?;
+            let relative = target.relative_to(alloc, reference_of(matches, "BASE")?)?;
+            relative.into_string()
         }
-        Question::Resolve(word, base) => {
-            let reference = reference("REFERENCE", word)?;
-            Ok(reference.resolved(alloc, iri("BASE", base)?)?.into_string())
+        ("edit", _, _) => {
+            let reference = reference_of(matches, "URI")?;
+            edited(alloc, reference, words_of(matches, "EDIT"))?
         }
-        Question::Relative(target, base) => {
-            let target = reference("TARGET", target)?;
-            Ok(
-                target
-                    .relative_to(alloc, reference("BASE", base)?)?
-                    .into_string(),
-            )
+        ("to-uri", _, _) => reference_of(matches, "IRI")?
+            .to_uri_ref(alloc)?
+            .into_string(),
+        ("compact", _, _) => {
+            let iri = iri("IRI", word_of(matches, "IRI"))?;
+            compacted(alloc, iri, words_of(matches, "LABEL=IRI"))?
         }
-        Question::Relativize(target, base) => relativized(alloc, target, base),
-        Question::Edit(word, edits) => edited(alloc, reference("URI", word)?, edits),
-        Question::ToUri(word) => Ok(reference("IRI", word)?.to_uri_ref(alloc)?.into_string()),
-        Question::Compact(word, entries) => compacted(alloc, iri("IRI", word)?, entries),
-        Question::Expand(word, entries) => expanded(alloc, word, entries),
-    }
+        ("expand", _, _) => {
+            let text = word_of(matches, "TEXT");
+            expanded(alloc, text, words_of(matches, "LABEL=IRI"))?
+        }
+        ("resolve", None, [word, base]) => resolved(alloc, *word, *base)?,
+        ("relativize", None, [word, base]) => relativized(alloc, *word, *base)?,
+        _ => return Ok(None),
+    };
+    Ok(Some(answer))
 }

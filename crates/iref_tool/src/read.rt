@@ -17,7 +17,7 @@ fn refused<'a>(
     fault: Fault,
 ) -> Refusal<'a> {
     let start = word.len().saturating_sub(text.len());
-    Refusal::new(argument, word, Reason::Text { kind, start, fault })
+    Refusal::Word(argument, word, Reason::Text { kind, start, fault })
 }
 
 /// The text at the end of a word, as a component of the rule.

@@ -64,12 +64,8 @@ impl fmt::Display for Reason {
 /// Why there is no answer.
 #[derive(Clone, Copy)]
 pub enum Refusal<'a> {
-    /// This word is wrong, which stands for this argument.
-    Word {
-        argument: &'static str,
-        word: &'a str,
-        reason: Reason,
-    },
+    /// Of this argument this word is wrong, and why.
+    Word(&'static str, &'a str, Reason),
     /// Memory was refused.
     Memory,
 }
@@ -80,23 +76,15 @@ impl From<Memory> for Refusal<'_> {
     }
 }
 
-impl<'a> Refusal<'a> {
-    /// The word that stands for this argument is wrong.
-    pub fn new(argument: &'static str, word: &'a str, reason: Reason) -> Self {
-        Refusal::Word {
-            argument,
-            word,
-            reason,
-        }
-    }
-
+impl Refusal<'_> {
     /// The status of the program.
     pub fn status(&self) -> Status {
         match self {
-            Refusal::Word {
-                reason: Reason::NoEdit | Reason::NoValue | Reason::Value | Reason::NoEntry,
-                ..
-            } => Status::Misused,
+            Refusal::Word(
+                _,
+                _,
+                Reason::NoEdit | Reason::NoValue | Reason::Value | Reason::NoEntry,
+            ) => Status::Misused,
             _ => Status::Wrong,
         }
     }
@@ -115,12 +103,7 @@ fn write_word<W: fmt::Write>(f: &mut fmt::Formatter<W>, word: &str) -> fmt::Resu
 /// invalid host: ' '`, the place in characters, and the word.
 impl fmt::Display for Refusal<'_> {
     fn fmt<W: fmt::Write>(&self, f: &mut fmt::Formatter<W>) -> fmt::Result {
-        let Refusal::Word {
-            argument,
-            word,
-            reason,
-        } = self
-        else {
+        let Refusal::Word(argument, word, reason) = self else {
             return f.write_str("iref: out of memory\n");
         };
         write!(f, "iref: {argument} {reason}")?;

@@ -3,22 +3,20 @@
 use crate::buffer::GATHERED;
 use crate::examples::Tables;
 use crate::input::{Failure, TakesLines, each_line};
-use crate::jobs::{
-    Below, Canonical, Check, Job, Keep, Key, Relativize, Resolve, Rule, Sort, Unique,
-};
+use crate::jobs::{Below, Canonical, Check, Job, Keep, Key, Relativize, Resolve, Sort, Unique};
 use crate::lines::Lines;
 use crate::output::{Output, Status, WriteFailed};
 use crate::progress::{LONG, Progress};
-use crate::question::{Question, answer};
+use crate::question::answer;
 use crate::read::{iri, reference};
 use crate::refusal::Refusal;
 use crate::texts::Texts;
-use crate::words::{LineTask, Task};
+use crate::words::{word_of, words_of};
+use clap::ArgMatches;
 use iref::iri::IriRef;
 use std::fs;
 use std::hash::RandomState;
 use std::io::{self, BufWriter, ErrorKind, IsTerminal, Write};
-use std::process::ExitCode;
 use std::rt::Stderr;
 
 /// The status where an output has failed. Nothing is said where nobody reads it any more.
@@ -45,11 +43,7 @@ fn refused(rt: &HostRuntime, refusal: &Refusal<'_>) -> Status {
 }
 
 // Prints one answer.
-fn answer_one(rt: &HostRuntime, question: Question<'_>) -> Status {
-    let answer = match answer(rt.alloc(), question) {
-        Ok(answer) => answer,
-        Err(refusal) => return refused(rt, &refusal),
-    };
+fn print(rt: &HostRuntime, answer: &str) -> Status {
     let mut out = Output::new(rt.stdout());
     if out.put(answer.as_bytes()).is_ok() {
         let _ = out.put(b"\n");
@@ -154,8 +148,15 @@ fn sort(rt: &HostRuntime, files: &[&str]) -> Status {
 }
 
 // Answers the lines of the files.
-fn answer_lines(rt: &HostRuntime, files: &[&str]) -> io::Result<Status> {
-    let tables = Tables::new(rt.alloc(), RandomState::new(rt)?);
+fn answer_lines(rt: &HostRuntime, files: &[&str]) -> Status {
+    let seed = match RandomState::new(rt) {
+        Ok(seed) => seed,
+        Err(error) => {
+            let _ = eprintln!(rt; "iref: {error}");
+            return Status::Wrong;
+        }
+    };
+    let tables = Tables::new(rt.alloc(), seed);
     let mut lines = Lines::new(rt.alloc(), tables, rt.stdout(), progress_of(rt, files));
     let mut status = Status::Well;
     for file in files {
@@ -164,65 +165,58 @@ fn answer_lines(rt: &HostRuntime, files: &[&str]) -> io::Result<Status> {
             None => break,
         }
     }
-    Ok(ended(rt, &lines.out, status))
-}
-
-// Does a job with each line of the files; else a word of the job is wrong.
-fn run_lines<'a>(
-    rt: &HostRuntime,
-    task: LineTask<'a>,
-    files: &[&'a str],
-) -> Result<Status, Refusal<'a>> {
-    Ok(match task {
-        LineTask::Check { uri, absolute } => {
-            let rule = match (uri, absolute) {
-                (false, false) => Rule::IriRef,
-                (false, true) => Rule::Iri,
-                (true, false) => Rule::UriRef,
-                (true, true) => Rule::Uri,
-            };
-            do_each(rt, Check(rule), files)
-        }
-        LineTask::Canonical { keep } => do_each(rt, Canonical::new(rt.alloc(), Keep(keep)), files),
-        LineTask::Key { keep } => do_each(rt, Key(Keep(keep)), files),
-        LineTask::Resolve { base, keep } => {
-            do_each(rt, Resolve(iri("BASE", base)?, Keep(keep)), files)
-        }
-        LineTask::Relativize { base, keep } => {
-            do_each(rt, Relativize(iri("BASE", base)?, Keep(keep)), files)
-        }
-        LineTask::Sort => sort(rt, files),
-        LineTask::Unique => do_each(rt, Unique::new(rt.alloc()), files),
-        LineTask::Below(prefix) => {
-            do_each(
-                rt,
-                Below::new(rt.alloc(), reference("PREFIX", prefix)?)?,
-                files,
-            )
-        }
-        LineTask::Lines => match answer_lines(rt, files) {
-            Ok(status) => status,
-            Err(error) => {
-                let _ = eprintln!(rt; "iref: {error}");
-                Status::Wrong
-            }
-        },
-    })
+    ended(rt, &lines.out, status)
 }
 
 // The files; standard input where there is none.
-fn or_stdin<'a>(files: &'a [&'a str]) -> &'a [&'a str] {
-    if files.is_empty() { &["-"] } else { files }
+fn files_of<'m, 'w: 'm>(matches: &'m ArgMatches<'w>) -> &'m [&'m str] {
+    match (words_of(matches, "FILE"), words_of(matches, "WORD")) {
+        ([], []) => &["-"],
+        ([], files) => files,
+        (files, _) => files,
+    }
 }
 
-/// Does what the words ask for.
-pub fn run_task(rt: &HostRuntime, task: Task<'_>) -> ExitCode {
-    let status = match task {
-        Task::One(question) => answer_one(rt, question),
-        Task::Each(task, files) => match run_lines(rt, task, or_stdin(files)) {
-            Ok(status) => status,
-            Err(refusal) => refused(rt, &refusal),
-        },
+// Does what a command asks for, with one answer or with each line of files; else a word is wrong.
+// None where it wants other words.
+fn run_words<'m, 'w: 'm>(
+    rt: &HostRuntime,
+    name: &str,
+    matches: &'m ArgMatches<'w>,
+) -> Result<Option<Status>, Refusal<'m>> {
+    let alloc = rt.alloc();
+    if let Some(answer) = answer(alloc, name, matches)? {
+        return Ok(Some(print(rt, answer.as_str())));
+    }
+    let keep = Keep(matches.get_flag("keep"));
+    let files = files_of(matches);
+    let base = word_of(matches, "base");
+    let status = match (name, matches.get_str("base").is_some()) {
+        ("check", _) => {
+            let uri = matches.get_flag("uri");
+            let absolute = matches.get_flag("absolute");
+            do_each(rt, Check { uri, absolute }, files)
+        }
+        ("canonical", _) => do_each(rt, Canonical::new(alloc, keep), files),
+        ("key", _) => do_each(rt, Key(keep), files),
+        ("resolve", true) => do_each(rt, Resolve(iri("BASE", base)?, keep), files),
+        ("relativize", true) => do_each(rt, Relativize(iri("BASE", base)?, keep), files),
+        ("sort", _) => sort(rt, files),
+        ("unique", _) => do_each(rt, Unique::new(alloc), files),
+        ("below", _) => {
+            let prefix = reference("PREFIX", word_of(matches, "PREFIX"))?;
+            do_each(rt, Below::new(alloc, prefix)?, files)
+        }
+        ("lines", _) => answer_lines(rt, files),
+        _ => return Ok(None),
     };
-    ExitCode::from(status)
+    Ok(Some(status))
+}
+
+/// Does what a command asks for, unless it wants other words.
+pub fn run_command(rt: &HostRuntime, name: &str, matches: &ArgMatches<'_>) -> Option<Status> {
+    match run_words(rt, name, matches) {
+        Ok(status) => status,
+        Err(refusal) => Some(refused(rt, &refusal)),
+    }
 }

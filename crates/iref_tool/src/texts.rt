@@ -1,12 +1,13 @@
 //! A job done with each line of inputs: what is answered, and what is said of wrong lines.
 
-use crate::buffer::{GATHERED, empty};
+use crate::buffer::GATHERED;
 use crate::input::TakesLines;
 use crate::jobs::{Job, LineFault};
 use crate::output::{Output, Status, WriteFailed};
 use crate::place::{Why, column};
 use crate::progress::Progress;
 use iref::Memory;
+use iref_batch::empty;
 use std::alloc::Global;
 use std::fmt;
 use std::io::Write;
