@@ -46,10 +46,6 @@ module _ {R M : Type 0} (key : R → Text) (reference : M → R) (len : M → �
               (All-push (λ n. len n ≡ length (key (reference n))) ms m made.lengths (counted ∙ ap (λ r. length (key r)) (sym is)));
         }
 
-  -- the references are those that the lengths stand beside
-  pub own_keys : (references : List R) (keys : Text) (ms : List M) → AreKeysOf key reference len references keys ms → AreKeysOf key reference len (map reference ms) keys ms
-  own_keys references keys ms made = record { keys = made.keys ∙ ap (flat_map key) (sym made.same); same = refl; lengths = made.lengths }
-
 -- ---- the keys are sorted
 module _ {R M : Type 0} (text : R → Text) (reference : M → R) where
   texts_of : (ms : List M) → map (λ m. text (reference m)) ms ≡ map text (map reference ms)

@@ -1,5 +1,5 @@
 -- Answers to lines.
-use Rattle.std.proofs.Common.{arith, ◌≡◌, Bool, true, false, Option, Err, option_map, codes}
+use Rattle.std.proofs.Common.{arith, ◌≡◌, Bool, false, Option, Err, option_map, codes}
 use Rattle.iref.specs.{Rules.{Text, InUtf8}, Characters.{iri_chars, iri_above_ascii}}
 use Rattle.iref.specs.{Grammar.{IsPath, IsUri, IsUriReference}, PathValue.{spell_path, read_path}, Contexts.{alone}}
 use Rattle.iref.specs.Reference.{ReferenceValue, read_reference, spell}
@@ -16,10 +16,7 @@ pub reply_of : (line : Text) (asked : Option Request) → read_line all_verbs li
 unfolding answer
 reply_of line asked e = grind arith
 
--- the answer to a request whose texts are in their grammars, and to another
-pub valid : (request : Request) → is_valid iri_chars request ≡ true → answer_if_valid iri_chars request ≡ answer_to request
-valid request h = grind arith
-
+-- the answer to a request whose texts are not in their grammars
 pub invalid : (request : Request) → is_valid iri_chars request ≡ false → answer_if_valid iri_chars request ≡ InvalidText
 invalid request h = grind arith
 

@@ -26,9 +26,6 @@ pub record Reading (all left : List Text) (kept : List EditStep) (valid : Bool) 
   pub valid_is : list_all (is_valid_edit iri_chars) steps ≡ valid
   pub kept_is : valid ≡ true → kept ≡ steps
 
-pub reading_begun : (all : List Text) → Reading all all [] true
-reading_begun all = grind arith
-
 all_valid-push : (steps : List EditStep) (step : EditStep) → list_all (is_valid_edit iri_chars) (steps ++ step ∷ []) ≡ (list_all (is_valid_edit iri_chars) steps && is_valid_edit iri_chars step)
 all_valid-push [] step = and-true (is_valid_edit iri_chars step)
 all_valid-push (s ∷ steps) step = grind (arith, all_valid-push steps step)

@@ -58,9 +58,6 @@ host_size host = by (is_ip_literal (percent_decode host))
     by true = omega (arith, (length-percent_decode host).0)
     by false = decoded_size (is_reg_name_char uri_chars) host
 
-port_behind : (port : Option Text) → length (then_part (colon ∷ []) port) ≤ 3 * length (then_part (colon ∷ []) port)
-port_behind port = omega arith
-
 authority_size : (a : AuthorityValue) → length (spell_authority (canonical_authority (authority_key a))) ≤ 3 * length (spell_authority a)
 unfolding spell_authority
 authority_size a =

@@ -1,6 +1,6 @@
 -- A normal list that is put on a stack from its end.
-use Rattle.std.proofs.Common.{◌≡◌, ℕ, ◌+◌, ◌<◌, Bool, List, [], ◌∷◌, ◌++◌, length, map, reverse, drop, get_or, ◌∙◌, ap, append_assoc, replicate, codes}
-use Rattle.std.proofs.lemmas.List.{at_drop_more, map-append, reverse-append}
+use Rattle.std.proofs.Common.{◌≡◌, ℕ, ◌+◌, ◌<◌, Bool, List, [], ◌∷◌, ◌++◌, length, map, reverse, drop, get_or, ◌∙◌, append_assoc, replicate, codes}
+use Rattle.std.proofs.lemmas.List.{at_drop_more, reverse-append}
 use Rattle.std.specs.{Borrow.{Bor}, List.{join_with_byte}}
 use Rattle.iref_grammar.specs.{Grammar.{slash}, Rules.{Text}}
 use Rattle.iref_model.specs.NormalReading.{closing}
@@ -23,12 +23,6 @@ parts_put none closed named all parents names closes empty h k l =
 
 pub in_order-cons : (item : Bor Text) (items : List (Bor Text)) → in_order (item ∷ items) ≡ in_order items ++ text_at item ∷ []
 in_order-cons item items = reverse-append (text_at item ∷ []) (map text_at items)
-
-pub in_order-append : (front back : List (Bor Text)) → in_order (front ++ back) ≡ in_order back ++ in_order front
-in_order-append front back = ap reverse (map-append text_at front back) ∙ reverse-append (map text_at front) (map text_at back)
-
--- one item more at either end
-pub ruleset ends = (in_order-cons, in_order-append)
 
 -- the first on the stack comes last
 pub stacked_last : (items : List (Bor Text)) (i : ℕ) (d : Bor Text) → i < length items

@@ -52,8 +52,6 @@ pub base_of-full : (set : CharTests) (text base : Text) → is_uri set text ≡ 
 unfolding base_of
 base_of-full set text base h k e = uri_if_scheme set base k (ap (λ (r : ReferenceValue). is_some r.scheme) e ∙ scheme_if_uri set text h)
 
-pub ruleset full_base = (base_of-full)
-
 -- ---- its text is a beginning of the text
 
 -- what follows the path
