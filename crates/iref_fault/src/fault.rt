@@ -59,7 +59,7 @@ impl Fault {
 }
 
 /// What a component is called in print: `Component::UserInfo` is `user info`.
-pub fn name(component: Component) -> &'static str
+pub fn component_name(component: Component) -> &'static str
     ensures { result.now ≡ component_name component }
 {
     match component {
@@ -83,7 +83,8 @@ impl fmt::Display for Fault {
             Cause::NoScheme => f.write_str("no scheme"),
             Cause::NotUtf8 => write!(f, "not UTF-8 at byte {}", self.at),
             Cause::Invalid(component) => {
-                write!(f, "invalid {} at byte {}: ", name(component), self.at)?;
+                let name = component_name(component);
+                write!(f, "invalid {name} at byte {}: ", self.at)?;
                 match self.found {
                     Some(c) => write!(f, "{c:?}"),
                     None => f.write_str("the text ends"),

@@ -3,7 +3,7 @@ ghost use Rattle.std.specs.Prelude.{◌≡◌, ◌+◌, ◌≤◌, length};
 ghost use Rattle.iref_tool.specs.Columns.{begins_char as is_first_byte, chars_in_first};
 
 use iref::{Cause, Fault};
-use iref_fault::fault::name;
+use iref_fault::fault::component_name;
 use std::fmt;
 use unicode_width::UnicodeWidthStr;
 
@@ -17,7 +17,7 @@ impl fmt::Display for Why {
             Cause::NoScheme => f.write_str("no scheme"),
             Cause::NotUtf8 => f.write_str("not UTF-8"),
             Cause::Invalid(component) => {
-                write!(f, "invalid {}: ", name(component))?;
+                write!(f, "invalid {}: ", component_name(component))?;
                 match self.0.found() {
                     Some(found) => write!(f, "{found:?}"),
                     None => f.write_str("the text ends"),
