@@ -49,8 +49,14 @@ impl<'a> Field<'a> {
         }
     }
 
-    // An edit that takes no value.
-    fn bare(&self, edit: Edit<'a>) -> Result<Edit<'a>, Refusal<'a>> {
+    // The edit that takes no value.
+    fn bare_edit(&self) -> Result<Edit<'a>, Refusal<'a>> {
+        let edit = match self.name {
+            "pop" => Edit::Pop,
+            "clear" => Edit::Clear,
+            "normalize" => Edit::Normalize,
+            _ => return Err(self.refused(Reason::NoEdit)),
+        };
         match self.value {
             Some(_) => Err(self.refused(Reason::Value)),
             None => Ok(edit),
@@ -65,10 +71,19 @@ impl<'a> Field<'a> {
             "lazy-push" => Ok(Edit::LazyPush(self.needed("segment")?)),
             "push" => Ok(Edit::Push(self.needed("segment")?)),
             "join" => Ok(Edit::JoinPath(self.needed("path")?)),
-            "pop" => self.bare(Edit::Pop),
-            "clear" => self.bare(Edit::Clear),
-            "normalize" => self.bare(Edit::Normalize),
-            _ => Err(self.refused(Reason::NoEdit)),
+            _ => self.bare_edit(),
+        }
+    }
+
+    // The edit of an authority, or of a path.
+    fn hierarchy_edit(&self) -> Result<Edit<'a>, Refusal<'a>> {
+        match self.name {
+            "authority" => Ok(Edit::SetAuthority(self.optional("authority")?)),
+            "replace-authority" => Ok(Edit::ReplaceAuthority(self.needed("authority")?)),
+            "user" => Ok(Edit::SetUserInfo(self.optional("user info")?)),
+            "host" => Ok(Edit::SetHost(self.needed("host")?)),
+            "port" => Ok(Edit::SetPort(self.optional("port")?)),
+            _ => self.path_edit(),
         }
     }
 
@@ -76,14 +91,9 @@ impl<'a> Field<'a> {
     fn edit(&self) -> Result<Edit<'a>, Refusal<'a>> {
         match self.name {
             "scheme" => Ok(Edit::SetScheme(self.optional("scheme")?)),
-            "authority" => Ok(Edit::SetAuthority(self.optional("authority")?)),
-            "replace-authority" => Ok(Edit::ReplaceAuthority(self.needed("authority")?)),
-            "user" => Ok(Edit::SetUserInfo(self.optional("user info")?)),
-            "host" => Ok(Edit::SetHost(self.needed("host")?)),
-            "port" => Ok(Edit::SetPort(self.optional("port")?)),
             "query" => Ok(Edit::SetQuery(self.optional("query")?)),
             "fragment" => Ok(Edit::SetFragment(self.optional("fragment")?)),
-            _ => self.path_edit(),
+            _ => self.hierarchy_edit(),
         }
     }
 }

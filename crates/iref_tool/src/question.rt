@@ -62,6 +62,43 @@ fn normal<'a>(alloc: Global, word: &'a str) -> Result<String, Refusal<'a>> {
     Ok(path.normalized(alloc)?.into_string())
 }
 
+// Whether two references mean the same: `yes` or `no`.
+fn equal<'m, 'w: 'm>(alloc: Global, matches: &'m ArgMatches<'w>) -> Result<String, Refusal<'m>> {
+    let equal = reference_of(matches, "FIRST")? == reference_of(matches, "SECOND")?;
+    Ok(String::from_str(alloc, if equal { "yes" } else { "no" }).or(Err(Memory))?)
+}
+
+// A reference that leads from a base to a target.
+fn relative<'m, 'w: 'm>(alloc: Global, matches: &'m ArgMatches<'w>) -> Result<String, Refusal<'m>> {
+    let target = reference_of(matches, "TARGET")?;
+    let base = reference_of(matches, "BASE")?;
+    Ok(target.relative_to(alloc, base)?.into_string())
+}
+
+// A reference after edits.
+fn edit<'m, 'w: 'm>(alloc: Global, matches: &'m ArgMatches<'w>) -> Result<String, Refusal<'m>> {
+    let reference = reference_of(matches, "URI")?;
+    edited(alloc, reference, words_of(matches, "EDIT"))
+}
+
+// An IRI, escaped as a URI.
+fn to_uri<'m, 'w: 'm>(alloc: Global, matches: &'m ArgMatches<'w>) -> Result<String, Refusal<'m>> {
+    let reference = reference_of(matches, "IRI")?;
+    Ok(reference.to_uri_ref(alloc)?.into_string())
+}
+
+// An IRI, shortened by labels.
+fn compact<'m, 'w: 'm>(alloc: Global, matches: &'m ArgMatches<'w>) -> Result<String, Refusal<'m>> {
+    let iri = iri("IRI", word_of(matches, "IRI"))?;
+    compacted(alloc, iri, words_of(matches, "LABEL=IRI"))
+}
+
+// The IRI that a text with a label stands for.
+fn expand<'m, 'w: 'm>(alloc: Global, matches: &'m ArgMatches<'w>) -> Result<String, Refusal<'m>> {
+    let text = word_of(matches, "TEXT");
+    expanded(alloc, text, words_of(matches, "LABEL=IRI"))
+}
+
 // What a reference resolves to against a base.
 fn resolved<'a>(alloc: Global, word: &'a str, base: &'a str) -> Result<String, Refusal<'a>> {
     let reference = reference("REFERENCE", word)?;
@@ -77,6 +114,19 @@ fn relativized<'a>(alloc: Global, target: &'a str, base: &'a str) -> Result<Stri
     }
 }
 
+// The answer of `resolve` and `relativize` to two words, and None to others and for other commands.
+fn answer_of_two<'m, 'w: 'm>(
+    alloc: Global,
+    name: &str,
+    matches: &'m ArgMatches<'w>,
+) -> Result<Option<String>, Refusal<'m>> {
+    match (name, matches.get_str("base"), words_of(matches, "WORD")) {
+        ("resolve", None, [word, base]) => Ok(Some(resolved(alloc, *word, *base)?)),
+        ("relativize", None, [word, base]) => Ok(Some(relativized(alloc, *word, *base)?)),
+        _ => Ok(None),
+    }
+}
+
 /// The answer, of one line but for the components; else which word has none, and why. None where
 /// the command has no such answer, or `resolve` and `relativize` other words than two.
 pub fn answer<'m, 'w: 'm>(
@@ -84,36 +134,16 @@ pub fn answer<'m, 'w: 'm>(
     name: &str,
     matches: &'m ArgMatches<'w>,
 ) -> Result<Option<String>, Refusal<'m>> {
-    let answer = match (name, matches.get_str("base"), words_of(matches, "WORD")) {
-        ("parts", _, _) => parts(alloc, reference_of(matches, "URI")?)?,
-        ("normal", _, _) => normal(alloc, word_of(matches, "PATH"))?,
-        ("equal", _, _) => {
-            let equal = reference_of(matches, "FIRST")? == reference_of(matches, "SECOND")?;
-            String::from_str(alloc, if equal { "yes" } else { "no" }).or(Err(Memory))?
-        }
-        ("relative", _, _) => {
-            let target = reference_of(matches, "TARGET")?;
-            let relative = target.relative_to(alloc, reference_of(matches, "BASE")?)?;
-            relative.into_string()
-        }
-        ("edit", _, _) => {
-            let reference = reference_of(matches, "URI")?;
-            edited(alloc, reference, words_of(matches, "EDIT"))?
-        }
-        ("to-uri", _, _) => reference_of(matches, "IRI")?
-            .to_uri_ref(alloc)?
-            .into_string(),
-        ("compact", _, _) => {
-            let iri = iri("IRI", word_of(matches, "IRI"))?;
-            compacted(alloc, iri, words_of(matches, "LABEL=IRI"))?
-        }
-        ("expand", _, _) => {
-            let text = word_of(matches, "TEXT");
-            expanded(alloc, text, words_of(matches, "LABEL=IRI"))?
-        }
-        ("resolve", None, [word, base]) => resolved(alloc, *word, *base)?,
-        ("relativize", None, [word, base]) => relativized(alloc, *word, *base)?,
-        _ => return Ok(None),
+    let answer = match name {
+        "parts" => parts(alloc, reference_of(matches, "URI")?)?,
+        "normal" => normal(alloc, word_of(matches, "PATH"))?,
+        "equal" => equal(alloc, matches)?,
+        "relative" => relative(alloc, matches)?,
+        "edit" => edit(alloc, matches)?,
+        "to-uri" => to_uri(alloc, matches)?,
+        "compact" => compact(alloc, matches)?,
+        "expand" => expand(alloc, matches)?,
+        _ => return answer_of_two(alloc, name, matches),
     };
     Ok(Some(answer))
 }
