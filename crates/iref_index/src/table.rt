@@ -1,7 +1,8 @@
 //! A table of SQLite, in a file, that holds URIs in the order of their sort keys.
 use anyhow::{Context, Result, ensure};
 use iref::uri::{Uri, UriBuf};
-use sqlite::{Connection, Error, ErrorCode, FileStore, Unknown, params};
+use sqlite::types::ValueRef;
+use sqlite::{Connection, Error, ErrorCode, FileStore, Row, Unknown, params};
 use std::alloc::Global;
 use std::fs::{self, File};
 use std::io::{self, Read};
@@ -82,45 +83,48 @@ impl Table {
         }
     }
 
+    // Runs a statement that is no query.
+    fn execute(&mut self, sql: &str, values: &[ValueRef<'_>]) -> Result<()> {
+        self.conn.execute(sql, values)?;
+        Ok(())
+    }
+
+    // The rows that a query finds.
+    fn rows(&mut self, sql: &str, values: &[ValueRef<'_>]) -> Result<Vec<Row>> {
+        Ok(self.conn.query_all(sql, values)?)
+    }
+
     // Makes the table where there is none.
     fn make(&mut self) -> Result<()> {
-        match self.conn.query_all(MADE, &[])?.first() {
-            Some(row) => {
-                let made: String = row.get(0)?;
-                ensure!(made.as_str() == CREATE, "uri is another table");
-            }
-            None => {
-                self.conn.execute(CREATE, &[])?;
-            }
-        }
+        let rows = self.rows(MADE, &[])?;
+        let Some(row) = rows.first() else {
+            return self.execute(CREATE, &[]);
+        };
+        let made: String = row.get(0)?;
+        ensure!(made.as_str() == CREATE, "uri is another table");
         Ok(())
     }
 
     fn put(&mut self, alloc: Global, uri: Uri<'_>) -> Result<()> {
         let key = uri.sort_key(alloc)?;
-        self.conn
-            .execute(PUT, params![key.as_bytes(), uri.as_str()])?;
-        Ok(())
+        self.execute(PUT, params![key.as_bytes(), uri.as_str()])
     }
 
     /// Puts all URIs or none, each under its sort key, in place of one that is equal to it.
     pub fn put_all(&mut self, alloc: Global, uris: &[UriBuf]) -> Result<()> {
-        self.conn.execute("BEGIN", &[])?;
+        self.execute("BEGIN", &[])?;
         self.make()?;
         for uri in uris {
             self.put(alloc, uri.as_uri())?;
         }
-        self.conn.execute("COMMIT", &[])?;
-        Ok(())
+        self.execute("COMMIT", &[])
     }
 
     /// The texts of the URIs that are below this one, in their order: one range of the keys.
     pub fn below(&mut self, alloc: Global, uri: Uri<'_>) -> Result<Vec<String>> {
         let range = uri.sort_range(alloc)?;
-        let rows = self.conn.query_all(
-            BELOW,
-            params![range.start.as_bytes(), range.end.as_bytes()],
-        )?;
+        let ends = params![range.start.as_bytes(), range.end.as_bytes()];
+        let rows = self.rows(BELOW, ends)?;
         let mut texts = Vec::new(alloc);
         for row in &rows {
             texts.push(row.get(0)?)?;
