@@ -1,3 +1,4 @@
+pub mod Columns
 pub mod EditFields
 pub mod Fields
 pub mod Gathering

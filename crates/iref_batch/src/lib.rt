@@ -1,4 +1,5 @@
-//! The lines of the program: each line read is answered by a line; with the laws about the answers.
+//! The lines of the program: each line read is answered by a line; with the laws about the answers, and
+//! what the command `iref` needs of buffers, columns and its status.
 #![tactic(auto)]
 
 ghost use Rattle.std.specs.Prelude.{◌≡◌, Some, true, false, OnOk, OnErr};
@@ -6,15 +7,18 @@ ghost use Rattle.iref.specs.Rules.{Text};
 ghost use Rattle.iref_batch.specs.Runs.{AnswersBegun, EndsWell, EndsEarly};
 
 mod answers;
+pub mod buffer;
+pub mod columns;
 mod edit_fields;
 pub mod line_laws;
 mod lines;
 mod request;
 pub mod run_laws;
+pub mod status;
 mod streams;
 
 use lines::Lines;
-pub use lines::{Begun, empty};
+pub use lines::{Begun, cut_at};
 use std::alloc::Global;
 pub use streams::{FromStd, Sink, Source, StreamError};
 use thiserror::Error;
@@ -32,7 +36,7 @@ impl From<StreamError> for RunError {
 }
 
 /// How many bytes are asked for at once.
-const BLOCK: usize = 1 << 16;
+pub const BLOCK: usize = 1 << 16;
 
 /// Answers each line of the reader's input by a line to the writer, up to the end of the input.
 /// A line for which memory is refused is answered `error memory`, and the run goes on.

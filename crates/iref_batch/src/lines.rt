@@ -6,28 +6,14 @@ ghost use Rattle.iref_batch.specs.Gathering.{WritesPart, Replies, RepliesPart, I
 ghost use Rattle.iref.specs.{Rules.{Text}, Texts.{is_empty}};
 
 use super::answers::answer_line;
+use super::buffer::{GATHERED, empty};
 use super::streams::{Sink, StreamError};
 use memchr::memchr;
 use std::alloc::Global;
 
-/// How many bytes of replies are gathered before they are written.
-const GATHERED: usize = 1 << 16;
-
-/// How many bytes of room a buffer keeps for what comes next.
-const KEPT: usize = 1 << 17;
-
-/// Empties the buffer. Room that it took for one long line is given back, so that a later line
-/// finds it.
-pub fn empty(bytes: &mut Vec<u8>)
-    ensures { bytes.new.items ≡ [] }
-{
-    bytes.clear();
-    bytes.shrink_to(KEPT);
-}
-
 /// What stands before the first delimiter in the text, and what stands after it.
 #[inline(always)]
-fn cut_at(mark: u8, text: &[u8]) -> Option<(&[u8], &[u8])>
+pub fn cut_at(mark: u8, text: &[u8]) -> Option<(&[u8], &[u8])>
     ensures { Cuts mark text.now result }
 {
     let at = memchr(mark, text)?;
@@ -116,6 +102,16 @@ pub struct Begun {
 }
 
 impl Begun {
+    /// No byte came in.
+    pub fn new(alloc: Global) -> Self
+        ensures { IsNothing result }
+    {
+        Begun {
+            bytes: Vec::new(alloc),
+            is_refused: false,
+        }
+    }
+
     /// No byte of a line came in.
     pub fn is_empty(&self) -> bool
         ensures nothing { result ≡ true → IsNothing self.now }
@@ -157,10 +153,7 @@ impl Lines {
         ensures gathered { result.gathered.bytes.items ≡ [] }
     {
         Lines {
-            begun: Begun {
-                bytes: Vec::new(alloc),
-                is_refused: false,
-            },
+            begun: Begun::new(alloc),
             gathered: Gathered {
                 bytes: Vec::new(alloc),
             },

@@ -1,8 +1,10 @@
 //! Where lines come from, and where replies go.
-ghost use Rattle.std.specs.Prelude.{◌≡◌, ◌<◌, ◌≤◌, List, ℕ, Option, Bool, length, false, IfOk, is_err};
-ghost use Rattle.std.specs.Io.KnownBytes.{ReadConsumes, WriteAppends};
+ghost use Rattle.std.specs.Prelude.{◌≡◌, ◌<◌, ◌≤◌, ◌||◌, List, ℕ, Option, Bool, length, false, IfOk, is_err};
+ghost use Rattle.std.specs.{Prelude.{IfSome, OnOk, is_some, true}, Fmt.{with_newline}};
+ghost use Rattle.std.specs.Io.KnownBytes.{Appends, Keeps, ReadConsumes, WriteAppends};
 
-use std::io::{Read, Write};
+use std::fmt::Display;
+use std::io::{self, ErrorKind, Read, Write};
 use thiserror::Error;
 
 /// A read or a write failed: what a `Source` or a `Sink` returns then, whatever the cause. `run` makes
@@ -45,11 +47,11 @@ pub trait Sink {
         ensures failed { has_failed self.new ≡ is_err result };
 }
 
-/// A reader or writer of std, with whether a call of it has failed.
+/// A reader or writer of std, with why a call of it has failed.
 #[derive(Debug, Drop)]
 pub struct FromStd<X> {
     inner: X,
-    has_failed: bool,
+    failure: Option<io::Error>,
 }
 
 impl<X> FromStd<X> {
@@ -62,7 +64,7 @@ impl<X> FromStd<X> {
     {
         FromStd {
             inner,
-            has_failed: false,
+            failure: None,
         }
     }
 
@@ -71,7 +73,14 @@ impl<X> FromStd<X> {
     pub fn has_failed(&self) -> bool
         ensures { result ≡ has_failed self.now }
     {
-        self.has_failed
+        self.failure.is_some()
+    }
+
+    /// Why a call has failed, if one has.
+    pub fn failure(&self) -> Option<&io::Error>
+        ensures { is_some result ≡ has_failed self.now }
+    {
+        self.failure.as_ref()
     }
 
     /// The reader or writer as it is now.
@@ -81,35 +90,86 @@ impl<X> FromStd<X> {
         let FromStd { inner, .. } = self;
         inner
     }
+
+    // Keeps why a call has failed.
+    fn keep(&mut self, error: io::Error) -> StreamError
+        ensures failed { has_failed self.new ≡ true }
+        ensures same { inner_of self.new ≡ inner_of self.old }
+    {
+        self.failure = Some(error);
+        StreamError
+    }
+}
+
+impl<W: Write> FromStd<W> {
+    ghost use Rattle.iref_batch.specs.StdStreams.{inner_of, has_failed};
+
+    /// Writes a line at once.
+    pub fn print<T: Display>(&mut self, line: &T) -> Result<(), StreamError>
+        ensures failed { has_failed self.new ≡ has_failed self.old || is_err result }
+        ensures ok { OnOk result (IfSome (with_newline (T.output line.now))
+            (Appends (W.contents (inner_of self.old)) (W.contents (inner_of self.new)))) }
+    {
+        let done = writeln!(self.inner, "{line}");
+        self.ended(done)
+    }
+
+    /// Writes all of the bytes.
+    pub fn put(&mut self, bytes: &[u8]) -> Result<(), StreamError>
+        ensures failed { has_failed self.new ≡ has_failed self.old || is_err result }
+        ensures ok { OnOk result
+            (Appends (W.contents (inner_of self.old)) (W.contents (inner_of self.new)) bytes.now) }
+    {
+        let done = self.inner.write_all(bytes);
+        self.ended(done)
+    }
+
+    /// Writes what the writer keeps.
+    pub fn flush(&mut self) -> Result<(), StreamError>
+        ensures failed { has_failed self.new ≡ has_failed self.old || is_err result }
+        ensures same { Keeps (W.contents (inner_of self.old)) (W.contents (inner_of self.new)) }
+    {
+        let done = self.inner.flush();
+        self.ended(done)
+    }
+
+    // Keeps why a call has failed, if it has.
+    fn ended(&mut self, done: io::Result<()>) -> Result<(), StreamError>
+        ensures failed { has_failed self.new ≡ has_failed self.old || is_err result }
+        ensures same { inner_of self.new ≡ inner_of self.old }
+        ensures done { is_err result ≡ is_err done }
+    {
+        match done {
+            Ok(()) => Ok(()),
+            Err(error) => Err(self.keep(error)),
+        }
+    }
 }
 
 impl<R: Read> Source for FromStd<R> {
     ghost remaining = { λ s. R.remaining s.inner };
 
-    ghost has_failed = { λ s. s.has_failed };
+    ghost has_failed = { λ s. is_some s.failure };
 
     fn read(&mut self, buf: &mut [u8]) -> Result<usize, StreamError> {
-        let Ok(n) = self.inner.read(buf) else {
-            self.has_failed = true;
-            return Err(StreamError);
-        };
-        Ok(n)
+        match self.inner.read(buf) {
+            Ok(n) => Ok(n),
+            Err(error) => Err(self.keep(error)),
+        }
     }
 }
 
 impl<W: Write> Sink for FromStd<W> {
     ghost contents = { λ s. W.contents s.inner };
 
-    ghost has_failed = { λ s. s.has_failed };
+    ghost has_failed = { λ s. is_some s.failure };
 
     /// A write that takes no byte of some has failed.
     fn write(&mut self, bytes: &[u8]) -> Result<usize, StreamError> {
         match self.inner.write(bytes) {
             Ok(n) if n > 0 || bytes.is_empty() => Ok(n),
-            _ => {
-                self.has_failed = true;
-                Err(StreamError)
-            }
+            Ok(_) => Err(self.keep(io::Error::from(ErrorKind::WriteZero))),
+            Err(error) => Err(self.keep(error)),
         }
     }
 }

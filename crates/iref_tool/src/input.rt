@@ -1,26 +1,21 @@
 //! The lines of an input, one at a time. Only LF ends a line; a last one without it counts unless it
 //! is empty.
-ghost use Rattle.std.specs.Prelude.{◌≡◌, ◌++◌, ◌∷◌, IfSome};
 
-use crate::output::WriteFailed;
-use iref_batch::{Begun, empty};
-use memchr::memchr;
+use iref_batch::buffer::empty;
+use iref_batch::{BLOCK, Begun, StreamError, cut_at};
 use std::alloc::Global;
 use std::io::{self, Read};
-
-/// How many bytes are asked for at once.
-const BLOCK: usize = 1 << 16;
 
 /// What lines are given to.
 pub trait TakesLines {
     /// Takes a line, without its LF.
-    fn take(&mut self, line: &[u8]) -> Result<(), WriteFailed>;
+    fn take(&mut self, line: &[u8]) -> Result<(), StreamError>;
 
     /// Takes note of a line for which memory was refused.
-    fn refuse(&mut self) -> Result<(), WriteFailed>;
+    fn refuse(&mut self) -> Result<(), StreamError>;
 
     /// Writes what is gathered, before more is read. So many bytes were read since the last time.
-    fn pause(&mut self, bytes: usize) -> Result<(), WriteFailed>;
+    fn pause(&mut self, bytes: usize) -> Result<(), StreamError>;
 
     /// Makes room on a terminal for a message.
     fn make_room(&mut self);
@@ -35,8 +30,8 @@ pub enum Failure {
     Write,
 }
 
-impl From<WriteFailed> for Failure {
-    fn from(_error: WriteFailed) -> Self {
+impl From<StreamError> for Failure {
+    fn from(_error: StreamError) -> Self {
         Failure::Write
     }
 }
@@ -47,17 +42,8 @@ impl From<io::Error> for Failure {
     }
 }
 
-// What stands before the first LF of the text, and what stands after it.
-#[inline(always)]
-fn cut_line(text: &[u8]) -> Option<(&[u8], &[u8])>
-    ensures { IfSome result (λ cut. text.now ≡ cut.0.now ++ 10 ∷ cut.1.now) }
-{
-    let at = memchr(b'\n', text)?;
-    Some((&text[..at], &text[at + 1..]))
-}
-
 // Gives away the line that ends with these bytes, and begins the next.
-fn end_line<T: TakesLines>(begun: &mut Begun, tail: &[u8], to: &mut T) -> Result<(), WriteFailed> {
+fn end_line<T: TakesLines>(begun: &mut Begun, tail: &[u8], to: &mut T) -> Result<(), StreamError> {
     if begun.is_empty() {
         return to.take(tail);
     }
@@ -76,9 +62,9 @@ fn take_block<T: TakesLines>(
     begun: &mut Begun,
     block: &[u8],
     to: &mut T,
-) -> Result<(), WriteFailed> {
+) -> Result<(), StreamError> {
     let mut rest = block;
-    while let Some((tail, more)) = cut_line(rest) {
+    while let Some((tail, more)) = cut_at(b'\n', rest) {
         end_line(begun, tail, to)?;
         rest = more;
     }
@@ -92,9 +78,7 @@ pub fn each_line<R: Read, T: TakesLines>(
     reader: &mut R,
     to: &mut T,
 ) -> Result<(), Failure> {
-    let bytes = Vec::new(alloc);
-    let is_refused = false;
-    let mut begun = Begun { bytes, is_refused };
+    let mut begun = Begun::new(alloc);
     let mut block = [0u8; BLOCK];
     for _reads in 0..u64::MAX {
         let n = reader.read(&mut block)?;

@@ -1,12 +1,12 @@
 //! What is done with each line of an input that is one text.
 
-use crate::buffer::push_line;
 use hex::encode;
 use iref::chars::IriChars;
 use iref::iri::{Iri, IriRef, sorted};
 use iref::rules::HeldRule;
 use iref::uri::{Uri, UriRef};
 use iref::{Fault, Memory, SortKey};
+use iref_batch::buffer::push_line;
 use iref_component::faults::HasFault;
 use iref_fault::fault::text_of_bytes;
 use iref_reference::borrowed::Reference;

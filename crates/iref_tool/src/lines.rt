@@ -1,12 +1,11 @@
 //! The lines of `iref_cli` and those of the examples, each answered by a line.
 
-use crate::buffer::{GATHERED, push_line};
 use crate::examples::{Tables, answer, is_of_examples};
 use crate::input::TakesLines;
-use crate::output::{Output, WriteFailed};
 use crate::progress::Progress;
 use iref::Memory;
-use iref_batch::{FromStd, empty, run};
+use iref_batch::buffer::{GATHERED, empty, push_line};
+use iref_batch::{FromStd, StreamError, run};
 use std::alloc::Global;
 use std::io::Write;
 
@@ -14,7 +13,7 @@ use std::io::Write;
 #[derive(Drop)]
 pub struct Lines<W, E> {
     /// Where answers go.
-    pub out: Output<W>,
+    pub out: FromStd<W>,
     alloc: Global,
     tables: Tables,
     progress: Progress<E>,
@@ -27,7 +26,7 @@ impl<W: Write, E: Write> Lines<W, E> {
     /// Before the first line.
     pub fn new(alloc: Global, tables: Tables, out: W, progress: Progress<E>) -> Self {
         Lines {
-            out: Output::new(out),
+            out: FromStd::new(out),
             alloc,
             tables,
             progress,
@@ -37,7 +36,7 @@ impl<W: Write, E: Write> Lines<W, E> {
     }
 
     // Writes the answers, and answers the lines that are asked.
-    fn settle(&mut self) -> Result<(), WriteFailed> {
+    fn settle(&mut self) -> Result<(), StreamError> {
         self.progress.hide();
         self.out.put(self.answers.as_slice())?;
         empty(&mut self.answers);
@@ -45,25 +44,25 @@ impl<W: Write, E: Write> Lines<W, E> {
             return Ok(());
         }
         if self.out.has_failed() {
-            return Err(WriteFailed);
+            return Err(StreamError);
         }
         let mut asked = FromStd::new(self.asked.as_slice());
         if run(self.alloc, &mut asked, &mut self.out).is_err() {
-            return Err(WriteFailed);
+            return Err(StreamError);
         }
         empty(&mut self.asked);
         Ok(())
     }
 
     // Answers at once.
-    fn put_line(&mut self, line: &[u8]) -> Result<(), WriteFailed> {
+    fn put_line(&mut self, line: &[u8]) -> Result<(), StreamError> {
         self.settle()?;
         self.out.put(line)?;
         self.out.put(b"\n")
     }
 
     // Answers a line of the examples.
-    fn take_example(&mut self, line: &[u8]) -> Result<(), WriteFailed> {
+    fn take_example(&mut self, line: &[u8]) -> Result<(), StreamError> {
         if !self.asked.is_empty() {
             self.settle()?;
         }
@@ -78,7 +77,7 @@ impl<W: Write, E: Write> Lines<W, E> {
 }
 
 impl<W: Write, E: Write> TakesLines for Lines<W, E> {
-    fn take(&mut self, line: &[u8]) -> Result<(), WriteFailed> {
+    fn take(&mut self, line: &[u8]) -> Result<(), StreamError> {
         if is_of_examples(line) {
             self.take_example(line)?;
         } else if push_line(&mut self.asked, line).is_err() {
@@ -90,11 +89,11 @@ impl<W: Write, E: Write> TakesLines for Lines<W, E> {
         Ok(())
     }
 
-    fn refuse(&mut self) -> Result<(), WriteFailed> {
+    fn refuse(&mut self) -> Result<(), StreamError> {
         self.put_line(b"error memory")
     }
 
-    fn pause(&mut self, bytes: usize) -> Result<(), WriteFailed> {
+    fn pause(&mut self, bytes: usize) -> Result<(), StreamError> {
         self.settle()?;
         self.progress.advance(bytes);
         Ok(())

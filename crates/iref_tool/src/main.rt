@@ -5,13 +5,11 @@
 //! program with status 0 and no message.
 #![tactic(auto)]
 
-mod buffer;
 mod edits;
 mod examples;
 mod input;
 mod jobs;
 mod lines;
-mod output;
 mod place;
 mod prefixes;
 mod progress;
@@ -23,7 +21,7 @@ mod texts;
 mod words;
 
 use clap::error::ErrorKind;
-use output::Status;
+use iref_batch::status::Status;
 use run::{output_failed, run_command};
 use std::process::ExitCode;
 use std::{env, io};

@@ -1,20 +1,10 @@
 //! How far the input is read, on a terminal.
-ghost use Rattle.std.specs.Prelude.{◌≡◌, ◌*◌, ◌≤◌, ◌/◌, min};
 
+use iref_batch::status::percent;
 use std::io::Write;
 
 /// Input of fewer bytes than these is soon read, and nothing is said of it.
 pub const LONG: u64 = 1 << 24;
-
-// How many hundredths of the whole a part is: of 8 that 2 is 25.
-fn percent(part: u64, whole: u64) -> u64
-    ensures { 1 ≤ whole → result ≡ min 100 (part * 100 / whole) }
-{
-    if part >= whole {
-        return 100;
-    }
-    (u128::from(part) * 100 / u128::from(whole)) as u64
-}
 
 /// A line that says how far the input is read, and is written over where it changes: `iref: 42%`.
 #[derive(Drop)]

@@ -1,9 +1,10 @@
 //! Words that have no answer, and why.
 
-use crate::output::Status;
-use crate::place::{Why, column, columns_before};
+use crate::place::{Why, columns_before};
 use iref::compact::Labels;
 use iref::{Fault, Memory};
+use iref_batch::columns::column;
+use iref_batch::status::Status;
 use std::fmt;
 
 /// What is wrong with a word.

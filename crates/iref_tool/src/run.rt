@@ -1,11 +1,9 @@
 //! What the words ask for, done.
 
-use crate::buffer::GATHERED;
 use crate::examples::Tables;
 use crate::input::{Failure, TakesLines, each_line};
 use crate::jobs::{Below, Canonical, Check, Job, Keep, Key, Relativize, Resolve, Sort, Unique};
 use crate::lines::Lines;
-use crate::output::{Output, Status, WriteFailed};
 use crate::progress::{LONG, Progress};
 use crate::question::answer;
 use crate::read::{iri, reference};
@@ -14,6 +12,9 @@ use crate::texts::Texts;
 use crate::words::{word_of, words_of};
 use clap::ArgMatches;
 use iref::iri::IriRef;
+use iref_batch::buffer::GATHERED;
+use iref_batch::status::Status;
+use iref_batch::{FromStd, StreamError};
 use std::fs;
 use std::hash::RandomState;
 use std::io::{self, BufWriter, ErrorKind, IsTerminal, Write};
@@ -29,7 +30,7 @@ pub fn output_failed(rt: &HostRuntime, error: &io::Error, status: Status) -> Sta
 }
 
 // The status of a run, whose output may have failed.
-fn ended<W: Write>(rt: &HostRuntime, out: &Output<W>, status: Status) -> Status {
+fn ended<W: Write>(rt: &HostRuntime, out: &FromStd<W>, status: Status) -> Status {
     match out.failure() {
         None => status,
         Some(error) => output_failed(rt, error, status),
@@ -44,7 +45,7 @@ fn refused(rt: &HostRuntime, refusal: &Refusal<'_>) -> Status {
 
 // Prints one answer.
 fn print(rt: &HostRuntime, answer: &str) -> Status {
-    let mut out = Output::new(rt.stdout());
+    let mut out = FromStd::new(rt.stdout());
     if out.put(answer.as_bytes()).is_ok() {
         let _ = out.put(b"\n");
     }
@@ -123,7 +124,7 @@ fn do_each<J: Job + Drop>(rt: &HostRuntime, job: J, files: &[&str]) -> Status {
 }
 
 // Writes the lines.
-fn put_lines<W: Write>(lines: &[IriRef<'_>], out: &mut Output<W>) -> Result<(), WriteFailed> {
+fn put_lines<W: Write>(lines: &[IriRef<'_>], out: &mut FromStd<W>) -> Result<(), StreamError> {
     for line in lines {
         out.put(line.as_bytes())?;
         out.put(b"\n")?;
@@ -142,7 +143,7 @@ fn sort(rt: &HostRuntime, files: &[&str]) -> Status {
         refused(rt, &Refusal::Memory);
         return status.max(Status::Wrong);
     };
-    let mut out = Output::new(writer);
+    let mut out = FromStd::new(writer);
     let _ = put_lines(sorted.as_slice(), &mut out);
     ended(rt, &out, status)
 }

@@ -1,13 +1,14 @@
 //! A job done with each line of inputs: what is answered, and what is said of wrong lines.
 
-use crate::buffer::GATHERED;
 use crate::input::TakesLines;
 use crate::jobs::{Job, LineFault};
-use crate::output::{Output, Status, WriteFailed};
-use crate::place::{Why, column};
+use crate::place::Why;
 use crate::progress::Progress;
 use iref::Memory;
-use iref_batch::empty;
+use iref_batch::buffer::{GATHERED, empty};
+use iref_batch::columns::column;
+use iref_batch::status::Status;
+use iref_batch::{FromStd, StreamError};
 use std::alloc::Global;
 use std::fmt;
 use std::io::Write;
@@ -18,7 +19,7 @@ pub struct Texts<'a, J, W, E> {
     /// What is done with each line.
     pub job: J,
     /// Where answers go.
-    pub out: Output<W>,
+    pub out: FromStd<W>,
     /// The status of the program.
     pub status: Status,
     err: E,
@@ -68,7 +69,7 @@ impl<'a, J: Job, W: Write, E: Write> Texts<'a, J, W, E> {
     pub fn new(alloc: Global, job: J, out: W, err: E, progress: Progress<E>) -> Self {
         Texts {
             job,
-            out: Output::new(out),
+            out: FromStd::new(out),
             status: Status::Well,
             err,
             progress,
@@ -86,7 +87,7 @@ impl<'a, J: Job, W: Write, E: Write> Texts<'a, J, W, E> {
     }
 
     // Notes that a line is wrong. Where there is no memory for that, it is said at once.
-    fn note(&mut self, line: &[u8], fault: LineFault) -> Result<(), WriteFailed> {
+    fn note(&mut self, line: &[u8], fault: LineFault) -> Result<(), StreamError> {
         self.status = self.status.max(Status::Wrong);
         let note = Note {
             file: self.file,
@@ -107,7 +108,7 @@ impl<'a, J: Job, W: Write, E: Write> Texts<'a, J, W, E> {
     }
 
     // Writes what is gathered.
-    fn flush(&mut self) -> Result<(), WriteFailed> {
+    fn flush(&mut self) -> Result<(), StreamError> {
         if self.answers.is_empty() && self.notes.is_empty() {
             return Ok(());
         }
@@ -121,7 +122,7 @@ impl<'a, J: Job, W: Write, E: Write> Texts<'a, J, W, E> {
 }
 
 impl<J: Job, W: Write, E: Write> TakesLines for Texts<'_, J, W, E> {
-    fn take(&mut self, line: &[u8]) -> Result<(), WriteFailed> {
+    fn take(&mut self, line: &[u8]) -> Result<(), StreamError> {
         self.number = self.number.saturating_add(1);
         let before = self.answers.len();
         match self.job.answer(line, &mut self.answers) {
@@ -137,12 +138,12 @@ impl<J: Job, W: Write, E: Write> TakesLines for Texts<'_, J, W, E> {
         Ok(())
     }
 
-    fn refuse(&mut self) -> Result<(), WriteFailed> {
+    fn refuse(&mut self) -> Result<(), StreamError> {
         self.number = self.number.saturating_add(1);
         self.note(&[], LineFault::Memory)
     }
 
-    fn pause(&mut self, bytes: usize) -> Result<(), WriteFailed> {
+    fn pause(&mut self, bytes: usize) -> Result<(), StreamError> {
         self.flush()?;
         self.progress.advance(bytes);
         Ok(())
