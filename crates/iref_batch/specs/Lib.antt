@@ -6,6 +6,7 @@ pub mod Lines
 pub mod PrefixFields
 pub mod Requests
 pub mod Runs
+pub mod Statuses
 pub mod StdStreams
 -- the words of contracts, for callers that list this crate alone
 pub use Rattle.iref.specs.Rules

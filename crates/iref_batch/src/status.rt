@@ -1,12 +1,14 @@
 //! How far a program has come, and how it ends.
-ghost use Rattle.std.specs.Prelude.{◌≡◌, ◌*◌, ◌≤◌, ◌/◌, min};
-ghost use Rattle.iref_batch.specs.declared.status.Status.TheVariants.{Well, Wrong, Misused};
+ghost use Rattle.std.specs.{Prelude.{◌≡◌, ◌<◌, ◌≤◌, ◌*◌, ◌/◌}, Process.{exit_status}};
+ghost use Rattle.iref_batch.specs.Statuses.{number_of};
 
 use std::process::ExitCode;
 
-/// How many hundredths of the whole a part is: of 8 that 2 is 25.
+/// How many hundredths of the whole a part is, rounded down: of 8 that 2 is 25. It is 100 where the
+/// part is no less than the whole.
 pub fn percent(part: u64, whole: u64) -> u64
-    ensures { 1 ≤ whole → result ≡ min 100 (part * 100 / whole) }
+    ensures below { part < whole → result ≡ part * 100 / whole }
+    ensures all { whole ≤ part → result ≡ 100 }
 {
     if part >= whole {
         return 100;
@@ -25,23 +27,14 @@ pub enum Status {
     Misused,
 }
 
-impl Status {
-    // What the process gives to the one that started it.
-    fn code(self) -> u8
-        ensures well { self ≡ Well → result ≡ 0 }
-        ensures wrong { self ≡ Wrong → result ≡ 1 }
-        ensures misused { self ≡ Misused → result ≡ 2 }
-    {
-        match self {
+impl From<Status> for ExitCode {
+    ghost from_gives = { λ status code. exit_status code ≡ number_of status };
+
+    fn from(status: Status) -> ExitCode {
+        ExitCode::from(match status {
             Status::Well => 0,
             Status::Wrong => 1,
             Status::Misused => 2,
-        }
-    }
-}
-
-impl From<Status> for ExitCode {
-    fn from(status: Status) -> ExitCode {
-        ExitCode::from(status.code())
+        })
     }
 }

@@ -104,7 +104,7 @@ impl<X> FromStd<X> {
 impl<W: Write> FromStd<W> {
     ghost use Rattle.iref_batch.specs.StdStreams.{inner_of, has_failed};
 
-    /// Writes a line at once.
+    /// Writes a line at once. After an error a beginning of it may stand there.
     pub fn print<T: Display>(&mut self, line: &T) -> Result<(), StreamError>
         ensures failed { has_failed self.new ≡ has_failed self.old || is_err result }
         ensures ok { OnOk result (IfSome (with_newline (T.output line.now))
@@ -114,7 +114,7 @@ impl<W: Write> FromStd<W> {
         self.ended(done)
     }
 
-    /// Writes all of the bytes.
+    /// Writes all of the bytes. After an error a beginning of them may stand there.
     pub fn put(&mut self, bytes: &[u8]) -> Result<(), StreamError>
         ensures failed { has_failed self.new ≡ has_failed self.old || is_err result }
         ensures ok { OnOk result
@@ -124,7 +124,7 @@ impl<W: Write> FromStd<W> {
         self.ended(done)
     }
 
-    /// Writes what the writer keeps.
+    /// Writes what the writer keeps. How much it keeps, no contract of std says.
     pub fn flush(&mut self) -> Result<(), StreamError>
         ensures failed { has_failed self.new ≡ has_failed self.old || is_err result }
         ensures same { Keeps (W.contents (inner_of self.old)) (W.contents (inner_of self.new)) }
