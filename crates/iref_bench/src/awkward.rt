@@ -5,6 +5,7 @@ use crate::names::put_name;
 use anyhow::{Context, Result};
 use iref::iri::Iri;
 use iref::uri::{Edit, Segment, Uri, UriBuf, UriRef, apply_all_uri};
+use iref_examples::chosen::chosen;
 use std::alloc::{AllocError, Global};
 use std::collections::HashMap;
 
@@ -25,7 +26,7 @@ static SHAPES: [(&str, &str); 8] = [
 
 // Writes a text of a shape, of about 100,000 bytes.
 fn put_shape(text: &mut String, shape: u64, number: u64) -> Result<(), AllocError> {
-    let (before, piece) = SHAPES[(shape % 8) as usize];
+    let (before, piece) = chosen(&SHAPES, shape);
     text.push_str(before)?;
     put_name(text, number)?;
     text.push_str(if shape % 8 == 0 { "" } else { "/" })?;

@@ -1,4 +1,5 @@
 //! Digits and letters that texts are made of.
+use iref_examples::chosen::chosen;
 use std::alloc::AllocError;
 
 static DIGITS: [&str; 16] = [
@@ -12,7 +13,7 @@ static LETTERS: [&str; 26] = [
 
 /// Appends the last decimal digit of a number.
 pub fn put_digit(text: &mut String, number: u64) -> Result<(), AllocError> {
-    text.push_str(DIGITS[(number % 10) as usize])
+    text.push_str(chosen(&DIGITS[..10], number))
 }
 
 /// Appends the last two decimal digits of a number.
@@ -41,7 +42,7 @@ pub fn put_numeral(text: &mut String, number: u64, count: u64) -> Result<(), All
 pub fn put_hex_digits(text: &mut String, number: u64, count: u64) -> Result<(), AllocError> {
     let mut rest = number;
     for _digit in 0..count {
-        text.push_str(DIGITS[(rest % 16) as usize])?;
+        text.push_str(chosen(&DIGITS, rest))?;
         rest /= 16;
     }
     Ok(())
@@ -51,7 +52,7 @@ pub fn put_hex_digits(text: &mut String, number: u64, count: u64) -> Result<(), 
 pub fn put_letters(text: &mut String, number: u64, count: u64) -> Result<(), AllocError> {
     let mut rest = number;
     for _letter in 0..count {
-        text.push_str(LETTERS[(rest % 26) as usize])?;
+        text.push_str(chosen(&LETTERS, rest))?;
         rest /= 26;
     }
     Ok(())

@@ -1,6 +1,8 @@
 //! Numbers that look random.
 ghost use Rattle.std.specs.Prelude.{◌<◌};
 
+use iref_examples::chosen::taken_below;
+
 /// A row of numbers that a seed determines, by splitmix64 (Steele, Lea and Flood, 2014).
 #[derive(Drop)]
 pub struct Numbers {
@@ -28,6 +30,6 @@ impl Numbers {
         requires { 0 < limit }
         ensures { result < limit }
     {
-        self.next() % limit
+        taken_below(self.next(), limit)
     }
 }

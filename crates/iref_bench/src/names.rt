@@ -1,4 +1,5 @@
 //! Names that texts are made of.
+use iref_examples::chosen::chosen;
 use std::alloc::AllocError;
 
 static WORDS: [&str; 64] = [
@@ -49,12 +50,12 @@ static WIDE_WORDS: [&str; 32] = [
 
 // A word that a number determines.
 fn word(number: u64) -> &'static str {
-    WORDS[(number % 64) as usize]
+    chosen(&WORDS, number)
 }
 
 // A word beyond ASCII.
 fn wide_word(number: u64) -> &'static str {
-    WIDE_WORDS[(number % 32) as usize]
+    chosen(&WIDE_WORDS, number)
 }
 
 /// Appends a name of three words, or of four from 262,144 on. The first 16,777,216 numbers have names

@@ -1,5 +1,6 @@
 //! Namespaces of prefix tables. Those of a table are alike, and many are of one length.
 use crate::digits::{put_digit, put_four_digits, put_hex_digits, put_two_digits};
+use iref_examples::chosen::chosen;
 use std::alloc::AllocError;
 
 /// Which namespaces a table has. They have numbers from 0 on.
@@ -109,17 +110,17 @@ static DIRECTORIES: [&str; 16] = [
 
 // The code of a language.
 fn language(number: u64) -> &'static str {
-    LANGUAGES[(number % 40) as usize]
+    chosen(&LANGUAGES, number)
 }
 
 // The name of an ontology.
 fn ontology(number: u64) -> &'static str {
-    ONTOLOGIES[(number % 40) as usize]
+    chosen(&ONTOLOGIES, number)
 }
 
 // The label of a vocabulary of the web, and its IRI.
 fn vocabulary(number: u64) -> (&'static str, &'static str) {
-    WEB[(number % 24) as usize]
+    chosen(&WEB, number)
 }
 
 // Appends a UUID. The first 65,536 numbers have UUIDs that differ, in the first four digits.

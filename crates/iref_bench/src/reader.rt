@@ -6,6 +6,7 @@ use crate::names::{put_name, put_wide_name};
 use anyhow::{Context, Result};
 use iref::compact::Prefixes;
 use iref::iri::{Iri, IriBuf, IriRef};
+use iref_examples::chosen::chosen;
 use std::alloc::{AllocError, Global};
 use std::collections::HashMap;
 
@@ -13,6 +14,7 @@ const BASE: &str = "http://data.example.org/library/2026/catalogue/index.ttl";
 
 // How a name is written in full, by a prefix, and in a third way: relative to the base, or as an IRI
 // that is equal.
+#[derive(Clone, Copy)]
 struct Namespace {
     full: &'static str,
     label: &'static str,
@@ -93,8 +95,8 @@ fn prefixes(alloc: Global) -> Result<Prefixes> {
 }
 
 // The namespace of an item.
-fn namespace_of(item: u64) -> &'static Namespace {
-    &NAMESPACES[(item / 10 % 10) as usize]
+fn namespace_of(item: u64) -> Namespace {
+    chosen(&NAMESPACES, item / 10)
 }
 
 // The IRI of an item by the first of three ways: in full.

@@ -5,6 +5,7 @@ use crate::names::{put_name, put_path};
 use anyhow::{Context, Result};
 use iref::compact::Prefixes;
 use iref::iri::Iri;
+use iref_examples::chosen::chosen;
 use std::alloc::{AllocError, Global};
 
 static BEGINNINGS: [&str; 5] = [
@@ -17,7 +18,7 @@ static BEGINNINGS: [&str; 5] = [
 
 // Writes the IRI of a prefix.
 fn put_namespace(text: &mut String, number: u64) -> Result<(), AllocError> {
-    text.push_str(BEGINNINGS[(number % 5) as usize])?;
+    text.push_str(chosen(&BEGINNINGS, number))?;
     put_name(text, number)?;
     text.push_str(if number % 3 == 0 { "/" } else { "#" })
 }
@@ -44,7 +45,7 @@ fn put_iri(text: &mut String, entries: u64, offset: u64, item: u64) -> Result<()
     let number = (item % entries.max(1)).wrapping_add(offset);
     match item % 8 {
         0 => text.push_str("http://www.example.net/")?,
-        1 => text.push_str(BEGINNINGS[(number % 5) as usize])?,
+        1 => text.push_str(chosen(&BEGINNINGS, number))?,
         _ => put_namespace(text, number)?,
     }
     put_path(text, item)

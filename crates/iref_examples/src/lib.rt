@@ -10,6 +10,7 @@ ghost use Rattle.iref.specs.{References.{reference_value}, CountedEquality.{IsCo
 
 pub mod below;
 pub mod cache;
+pub mod chosen;
 pub mod context;
 pub mod editors;
 pub mod mapping;
