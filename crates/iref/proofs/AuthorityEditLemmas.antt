@@ -6,8 +6,8 @@ use Rattle.iref_grammar.specs.{ComponentOffsets.{offsets_of}, Reference.{is_read
 use Rattle.iref_component.specs.{declared.rule_text.RuleText.{RuleText}, Components.{text_of}}
 use Rattle.iref_component.specs.declared.authority_mut.AuthorityMut.{AuthorityMut}
 use Rattle.iref_component.specs.AuthorityEdits.{edited_bytes, Edits, IsEditorAt}
-use Rattle.iref_model.specs.ComponentSteps.{with_authority_step}
-use Rattle.iref_model.specs.Edits.{EditStep, NoAuthority, edited, with_authority_part}
+use Rattle.iref_grammar.specs.ComponentSteps.{with_authority_step}
+use Rattle.iref_grammar.specs.Edits.{EditStep, NoAuthority, edited, with_authority_part}
 use Rattle.iref_reference_text.proofs.EditLemmas.{readable_of}
 use Rattle.iref_reference.proofs.AuthorityStepLemmas.{authority_step}
 use Rattle.iref.specs.EditAnswers.{DoesEdit, may_take_memory}

@@ -2,8 +2,8 @@
 use Rattle.std.proofs.Common.{◌≡◌, ℕ, zero, suc, ◌+◌, Bool, true, List, [], ◌∷◌, ◌∙◌, take, Result, Ok, Err, ap, arith, refl, Option}
 use Rattle.std.specs.List.{list_all}
 use Rattle.iref_grammar.specs.{Rules.{Text}, Reference.{ReferenceValue}}
-use Rattle.iref_model.specs.ComponentSteps.{with_fragment, with_query, with_scheme, with_authority, with_path}
-use Rattle.iref_model.specs.Edits.{EditStep, EditRefusal, Edited, EditsOutcome, edited, edited_uri, edited_from}
+use Rattle.iref_grammar.specs.ComponentSteps.{with_fragment, with_query, with_scheme, with_authority, with_path}
+use Rattle.iref_grammar.specs.Edits.{EditStep, EditRefusal, Edited, EditsOutcome, edited, edited_uri, edited_from}
 use Rattle.iref.specs.EditAnswers.{AreDone, edited_in, keeps_query_and_fragment}
 
 list_all-taken : (p : EditStep → Bool) (n : ℕ) (edits : List EditStep) → list_all p edits ≡ true → list_all p (take n edits) ≡ true

@@ -3,7 +3,7 @@ use Rattle.std.proofs.Common.{◌≡◌, true, Result, Ok, Err, OnErr, sym, ap, 
 use Rattle.iref_grammar.specs.{declared.context.PathContext.{PathContext}, Characters.{CharTests, AreAboveAscii}}
 use Rattle.iref_grammar.specs.{Rules.{Text}, PathValue.{PathValue}, ComponentOffsets.{offsets_of}}
 use Rattle.iref_grammar.specs.Reference.{context_of, is_readable, is_reference, read_reference}
-use Rattle.iref_model.specs.{ComponentSteps.{with_path_step}, Edits.{EditStep, edited}}
+use Rattle.iref_grammar.specs.{ComponentSteps.{with_path_step}, Edits.{EditStep, edited}}
 use Rattle.iref_reference_text.proofs.EditLemmas.{readable_of}
 use Rattle.iref_component.specs.{declared.path_mut.PathMut.{PathMut}, PathEdits.{edited_bytes, IsEditorOf, Edits}}
 use Rattle.iref_reference.proofs.PathStepLemmas.{path_step}

@@ -2,8 +2,8 @@
 use Rattle.std.proofs.Common.{◌≡◌, ℕ, ◌+◌, zero, suc, Bool, true, false, List, [], ◌∷◌, ◌<◌, ◌≤◌, map, take, length, get_or, Result, Ok, Err, refl, add-one, arith, Option, Some, IsOk, is_some, is_none, option_map, slice_get}
 use Rattle.std.proofs.{lemmas.List.{take_all, length-map}, lemmas.Option.{slice_get-map, slice_get_read}}
 use Rattle.iref_grammar.specs.{Rules.{Text}, Authority.{spell_authority}, Reference.{ReferenceValue, read_reference}}
-use Rattle.iref_model.specs.Edits as model
-use Rattle.iref_model.specs.Edits.{EditStep, EditRefusal, Edited, drops_scheme, edited, edited_uri, edited_from}
+use Rattle.iref_grammar.specs.Edits as model
+use Rattle.iref_grammar.specs.Edits.{EditStep, EditRefusal, Edited, drops_scheme, edited, edited_uri, edited_from}
 use Rattle.iref.specs.declared.edits.EditFault.{EditFault}
 use Rattle.iref.specs.EditAnswers.{AppliesEdit, AreDone, StopsAt, edited_in, is_authority_edit}
 

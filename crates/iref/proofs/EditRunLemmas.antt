@@ -3,8 +3,8 @@ use Rattle.std.proofs.Common.{◌≡◌, ℕ, zero, suc, ◌+◌, ◌-◌, ◌�
 use Rattle.std.proofs.Math.Seq.{take-add}
 use Rattle.std.proofs.lemmas.List.{drop-map, length-map, take-append-drop, take-map, take-take, take_rest}
 use Rattle.iref_grammar.specs.Reference.{ReferenceValue}
-use Rattle.iref_model.specs.Edits as model
-use Rattle.iref_model.specs.Edits.{EditStep, EditRefusal, Edited, EditsOutcome, edited_from}
+use Rattle.iref_grammar.specs.Edits as model
+use Rattle.iref_grammar.specs.Edits.{EditStep, EditRefusal, Edited, EditsOutcome, edited_from}
 use Rattle.iref.specs.declared.edits.EditFault.{EditFault}
 use Rattle.iref.specs.declared.edits.EditFault.TheVariants.{NoAuthority, SchemeNeeded, Memory}
 use Rattle.iref.specs.EditAnswers.{AreDone, Refuses, StopsAt}

@@ -4,7 +4,7 @@ use Rattle.std.proofs.{lemmas.List.{map-append}, lemmas.List.Folds.{list_any-app
 use Rattle.std.specs.{Bool.{OnFalse}, List.{list_any}, Ordering.{is_eq}}
 use Rattle.std.specs.BTreeSet.{BTreeSet, contains, Updates, IsUnchanged}
 use Rattle.iref_grammar.specs.{Keys.{text_order}, Reference.{ReferenceValue}, Rules.{Text}}
-use Rattle.iref_model.specs.Key.{are_alike, key}
+use Rattle.iref_grammar.specs.Key.{are_alike, key}
 use Rattle.iref_canonical.specs.SortKey.{sort_key}
 use Rattle.iref_canonical.proofs.SortKeyLemmas.{text_order-sort_key}
 use Rattle.iref.specs.Lists.{firsts, with_new}

@@ -29,7 +29,7 @@ pub use Rattle.iref_grammar.proofs.PathTextLemmas
 pub use Rattle.iref_grammar.proofs.ReferenceCutLemmas
 pub use Rattle.iref_grammar.proofs.ReferenceRuleLemmas
 pub use Rattle.iref_grammar.proofs.SplitLemmas
-pub use Rattle.iref_model.proofs.DirectoryLemmas
-pub use Rattle.iref_model.proofs.KeyOrderLemmas
-pub use Rattle.iref_model.proofs.PartTieLemmas
-pub use Rattle.iref_model.proofs.TieLemmas
+pub use Rattle.iref_grammar.proofs.DirectoryLemmas
+pub use Rattle.iref_grammar.proofs.KeyOrderLemmas
+pub use Rattle.iref_grammar.proofs.PartTieLemmas
+pub use Rattle.iref_grammar.proofs.TieLemmas

@@ -3,9 +3,9 @@ use Rattle.std.proofs.Common.{◌≡◌, Bool, true, Option, Ok, refl, ap, ◌�
 use Rattle.iref_grammar.specs.{Rules.{Text}, Contexts.{follows_authority}, PathValue.{PathValue}}
 use Rattle.iref_grammar.specs.Reference.{ReferenceValue, context_of, read_reference}
 use Rattle.iref_grammar.proofs.ContextLemmas.{read_follows}
-use Rattle.iref_model.specs.{ComponentSteps.{with_path, with_path_step}, PathSteps.{normalized}}
-use Rattle.iref_model.specs.Edits.{EditStep, Normalize, edited, edited_uri}
-use Rattle.iref_model.proofs.{FitsLemmas.{replaced-fits}, NormalPathLemmas.{normalized-normalized}}
+use Rattle.iref_grammar.specs.{ComponentSteps.{with_path, with_path_step}, PathSteps.{normalized}}
+use Rattle.iref_grammar.specs.Edits.{EditStep, Normalize, edited, edited_uri}
+use Rattle.iref_grammar.proofs.{FitsLemmas.{replaced-fits}, NormalPathLemmas.{normalized-normalized}}
 use Rattle.iref.specs.EditAnswers.{HasNormalPath, edited_in, is_normal_after}
 use Rattle.iref.proofs.EditListLemmas.{kept_in}
 

@@ -3,7 +3,7 @@ use Rattle.std.proofs.Common.{◌≡◌, ℕ, ◌<◌, ◌/◌, ◌%◌, zero, s
 use Rattle.std.proofs.lemmas.Bool.Decides.{nat_tests}
 use Rattle.std.specs.{Char.{is_ascii_digit}, Fmt.{digit_glyph, digits_onto, digits}, List.{list_all}}
 use Rattle.iref_grammar.specs.{Rules.{Text}, Tests.{is_port, none_or}}
-use Rattle.iref_model.specs.PortNumbers.{port_text}
+use Rattle.iref_grammar.specs.PortNumbers.{port_text}
 
 glyph_is_digit : (d : ℕ) → d < 10 → is_ascii_digit (digit_glyph false d) ≡ true
 glyph_is_digit d h = grind (arith, nat_tests)

@@ -10,7 +10,7 @@ use Rattle.iref_grammar.specs.Reference.{read_reference, is_readable, is_referen
 use Rattle.iref.specs.PrefixLabels.{is_label, is_ascii_label, is_turtle_label, follow_pn_chars_base}
 use Rattle.iref.specs.declared.compact.label.Labels.TheVariants.{Ascii, Turtle, Any}
 use Rattle.iref.specs.PrefixTable.{PrefixEntry, PrefixesValue, ascii_table, get, InsertRefusal, BadLabel, Taken, inserted, inserted_all, longest_fit, compacted, compact_text, ExpandRefusal, NoColon, UnknownLabel, NotAnIri, expanded}
-use Rattle.iref_model.proofs.Rows.{utf8}
+use Rattle.iref_grammar.proofs.Rows.{utf8}
 
 abbrev entry : String → String → PrefixEntry
 entry label iri = record { label = codes label; iri = codes iri }

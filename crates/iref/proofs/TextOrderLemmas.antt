@@ -4,7 +4,7 @@ use Rattle.std.proofs.lemmas.Bool.{cases_eq, cases_lt, eq-eqb, ne_eqb}
 use Rattle.std.specs.{List.{common_prefix_len}, Cmp.{nat_cmp_is}, Ordering.{nat_cmp, ordering_then}}
 use Rattle.std.specs.declared.cmp.Ordering.TheVariants.{Less, Equal, Greater}
 use Rattle.iref_grammar.specs.{Keys.{text_order}, Reference.{ReferenceValue}, Rules.{Text}}
-use Rattle.iref_model.specs.Key.{key_cmp}
+use Rattle.iref_grammar.specs.Key.{key_cmp}
 use Rattle.iref_canonical.specs.SortKey.{sort_key}
 use Rattle.iref_canonical.proofs.SortKeyLemmas.{text_order-sort_key}
 

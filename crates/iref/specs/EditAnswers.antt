@@ -1,9 +1,9 @@
 -- What a list of edits leaves, and where it stops.
 use Rattle.std.specs.Prelude.{◌≡◌, ℕ, Bool, true, false, List, take, slice_get, Option, None, is_some, Result, MatchResult, Ok, Err, IsOk, OnOk, OnErr, IsSomeAnd, if◌then◌else◌}
 use Rattle.iref_grammar.specs.{Rules.{Text}, Reference.{ReferenceValue, context_of, read_reference, spell}}
-use Rattle.iref_model.specs.Edits as model
-use Rattle.iref_model.specs.Edits.{EditStep, SetScheme, SetAuthority, ReplaceAuthority, SetUserInfo, SetHost, SetPort, SetPortU32, SetAndNormalizePath, SetQuery, SetFragment, LazyPush, Push, JoinPath, Pop, Clear, Normalize, Edited, edited, edited_uri, edited_from}
-use Rattle.iref_model.specs.PathSteps.{normalized}
+use Rattle.iref_grammar.specs.Edits as model
+use Rattle.iref_grammar.specs.Edits.{EditStep, SetScheme, SetAuthority, ReplaceAuthority, SetUserInfo, SetHost, SetPort, SetPortU32, SetAndNormalizePath, SetQuery, SetFragment, LazyPush, Push, JoinPath, Pop, Clear, Normalize, Edited, edited, edited_uri, edited_from}
+use Rattle.iref_grammar.specs.PathSteps.{normalized}
 use Rattle.iref_reference.specs.declared.owned.ReferenceBuf.{ReferenceBuf}
 use Rattle.iref_reference.specs.References.{reference_buf_text, reference_buf_value}
 use Rattle.iref.specs.declared.edits.EditFault.{EditFault}

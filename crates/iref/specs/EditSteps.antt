@@ -1,7 +1,7 @@
 -- The step of the model that each edit stands for.
 use Rattle.std.specs.{Prelude.{ℕ, Bool, List, map, Option, option_map, Result}, List.{list_all}}
-use Rattle.iref_model.specs.Edits as model
-use Rattle.iref_model.specs.Edits.{EditStep}
+use Rattle.iref_grammar.specs.Edits as model
+use Rattle.iref_grammar.specs.Edits.{EditStep}
 use Rattle.iref_component.specs.Components.{text_of}
 use Rattle.iref_grammar.specs.Rules.{Text}
 use Rattle.iref_reference.specs.{declared.owned.ReferenceBuf.{ReferenceBuf}, References.{reference_buf_value}}

@@ -3,7 +3,7 @@ use Rattle.std.specs.Prelude.{◌≡◌, ℕ, List, [], ◌∷◌, ◌++◌, fol
 use Rattle.std.specs.{List.{All, dedup, flat_map, list_any}, List.Sorted.{IsPermutation, IsSorted, IsStable}}
 use Rattle.std.specs.Ordering.{eq_by_cmp, on}
 use Rattle.iref_grammar.specs.{Reference.{ReferenceValue, read_reference}, Rules.{Text}}
-use Rattle.iref_model.specs.Key.{are_alike, key, key_cmp}
+use Rattle.iref_grammar.specs.Key.{are_alike, key, key_cmp}
 
 -- what a reference is compared by
 abbrev pub key_of_text : Text → ReferenceValue

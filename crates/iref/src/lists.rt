@@ -5,7 +5,7 @@ ghost use Rattle.std.specs.{Ordering.{on, as_partial_cmp, eq_by_cmp}, Cmp.Rules.
 ghost use Rattle.std.specs.{List.Sorted.{IsPermutation, IsSorted, IsStable}, Prelude.{◌≡◌, IfOk, map}};
 ghost use Rattle.std.proofs.Common.{rules, refl};
 ghost use Rattle.iref_grammar.specs.Keys.{text_order};
-ghost use Rattle.iref_model.{proofs.KeyOrderLemmas.{keys_total}, specs.Key.{key_cmp}};
+ghost use Rattle.iref_grammar.{proofs.KeyOrderLemmas.{keys_total}, specs.Key.{key_cmp}};
 ghost use Rattle.iref_canonical.specs.SortKey.{sort_key};
 ghost use Rattle.iref_reference.specs.References.{key_of_reference, reference_text, reference_value};
 ghost use Rattle.iref.specs.Lists.{AreKeysOf, IsSortedUnique, firsts, key_of_text};

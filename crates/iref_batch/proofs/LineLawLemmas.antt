@@ -7,8 +7,8 @@ use Rattle.iref.specs.{Rules.{Text, InUtf8}, Grammar.{IsUriReference}, Reference
 use Rattle.iref.specs.{Key.{key, are_alike}, Mapping.{mapped}, declared.compact.label.Labels.TheVariants.{Ascii}}
 use Rattle.iref.specs.PrefixTable.{PrefixEntry, PrefixesValue, IsPrefixTable, ascii_table, inserted_all, CompactValue, compacted, compact_text, expanded}
 use Rattle.iref_grammar.proofs.ReferenceRuleLemmas.{Decides-is_uri_reference}
-use Rattle.iref_model.proofs.KeyLemmas.{Decides-are_alike}
-use Rattle.iref_model.proofs.MappedReferenceLemmas.{reference_is_uri_reference, key-mapped_text}
+use Rattle.iref_grammar.proofs.KeyLemmas.{Decides-are_alike}
+use Rattle.iref_grammar.proofs.MappedReferenceLemmas.{reference_is_uri_reference, key-mapped_text}
 use Rattle.iref.proofs.PrefixLemmas.{table-nil, table-all, expanded-compacted}
 use Rattle.iref_batch.specs.Lines.{Request, ToUri, Compact, Expand, Answered, InvalidText, Verbs, equals_sign, is_valid, part_field, expanded_answer, answer_to, answer_if_valid, answer}
 use Rattle.iref_batch.proofs.WiderLineLemmas.{valid}

@@ -16,7 +16,7 @@ use Rattle.iref.specs.{ComponentSteps.{with_scheme, with_authority, with_path}, 
 use Rattle.iref.specs.{Relative.{relative_to}, Resolution.{resolved}, Edits.{edited, edited_from}}
 use Rattle.iref.specs.{Characters.{uri_chars, iri_chars}, Mapping.{mapped}, PrefixLabels.{is_ascii_label}}
 use Rattle.iref.specs.PrefixTable.{get, inserted, inserted_all, longest_fit, compacted, expanded}
-use Rattle.iref_model.proofs.Rows.{utf8}
+use Rattle.iref_grammar.proofs.Rows.{utf8}
 use Rattle.iref_batch.specs.Lines.{answer, answer_text, answer_to, is_valid, read_line, output, all_verbs}
 
 -- the answer to a line, without the newline, of a program over URIs, and of one over IRIs

@@ -2,7 +2,7 @@
 use Rattle.std.proofs.Common.{arith, ◌≡◌, List, [], ◌∷◌, ◌++◌, refl, sym, ◌∙◌, ap, append_assoc, append-nil}
 use Rattle.std.proofs.{lemmas.Grind.{common_steps}, lemmas.List.Concat.{flat_map-append}}
 use Rattle.iref.specs.{Characters.{CharTests}, Rules.{Text}, Texts.{pieces_at}}
-use Rattle.iref_model.proofs.PieceLemmas.{pieces-append, some_piece}
+use Rattle.iref_grammar.proofs.PieceLemmas.{pieces-append, some_piece}
 use Rattle.iref_batch.specs.Lines.{Verbs, newline, without_empty_last, lines_of, output}
 
 pub without_empty_last-append : (lines : List Text) (line : Text) (rest : List Text) → without_empty_last (lines ++ line ∷ rest) ≡ lines ++ without_empty_last (line ∷ rest)

@@ -14,13 +14,13 @@ use Rattle.iref_grammar.specs.Reference.{ReferenceValue, IsReadable, context_of,
 use Rattle.iref_grammar.proofs.LeafLemmas.{Decides-is_segment, Decides-is_query, Decides-is_fragment}
 use Rattle.iref_grammar.proofs.PartRuleLemmas.{Decides-none_or, Decides-all, Decides-is_port_bytes}
 use Rattle.iref_grammar.proofs.{ReadablePartsLemmas.{readable_parts}, ReferenceRuleLemmas.{Decides-is_readable}}
-use Rattle.iref_model.specs.AuthorityKey.{authority_key}
-use Rattle.iref_model.specs.NormalList.{normal_segments, without_lone_empty, excess, staying_names}
-use Rattle.iref_model.specs.{PathKey.{path_key}, Key.{key}}
-use Rattle.iref_model.proofs.{ComparisonLemmas.{lone_equal}, NormalGrammarLemmas.{takes_dots}}
-use Rattle.iref_model.proofs.{ReferenceStepLemmas.{guarded_reference-readable}, SettledLemmas.{lone-normal}}
-use Rattle.iref_model.proofs.{StepSegmentLemmas.{normal-in}, MappedCharLemmas.{utf8_bytes}}
-use Rattle.iref_model.proofs.{MappedMarkLemmas.{is_some-map}, MappedRuleLemmas.{IfSome_mapped}}
+use Rattle.iref_grammar.specs.AuthorityKey.{authority_key}
+use Rattle.iref_grammar.specs.NormalList.{normal_segments, without_lone_empty, excess, staying_names}
+use Rattle.iref_grammar.specs.{PathKey.{path_key}, Key.{key}}
+use Rattle.iref_grammar.proofs.{ComparisonLemmas.{lone_equal}, NormalGrammarLemmas.{takes_dots}}
+use Rattle.iref_grammar.proofs.{ReferenceStepLemmas.{guarded_reference-readable}, SettledLemmas.{lone-normal}}
+use Rattle.iref_grammar.proofs.{StepSegmentLemmas.{normal-in}, MappedCharLemmas.{utf8_bytes}}
+use Rattle.iref_grammar.proofs.{MappedMarkLemmas.{is_some-map}, MappedRuleLemmas.{IfSome_mapped}}
 use Rattle.iref_canonical.specs.Canonical.{encoded, canonical_authority, canonical_parts, canonical, spelled}
 use Rattle.iref_canonical.proofs.{EncodedTextLemmas.{encoded-in}, PlainCharacterLemmas.{plain_query, plain_fragment}}
 use Rattle.iref_canonical.proofs.CanonicalPathLemmas.{AreBytes, canonical_items-in, path_key-canonical}

@@ -11,9 +11,9 @@ use Rattle.iref_grammar.specs.{Reference.{ReferenceValue, context_of, read_refer
 use Rattle.iref_grammar.specs.{Texts.{is_empty, part_then, then_part}, Contexts.{reads_as_path}}
 use Rattle.iref_grammar.specs.declared.context.PathContext.{PathContext}
 use Rattle.iref_grammar.proofs.ReferenceCutLemmas.{read_reference-spelled}
-use Rattle.iref_model.specs.{AuthorityKey.{authority_key}, Guard.{guarded, made_absolute, with_dot}, Key.{key}}
-use Rattle.iref_model.specs.{NormalList.{is_dot_dot, normal_segments}, PathKey.{path_key}}
-use Rattle.iref_model.proofs.MappedLemmas.{length-escape}
+use Rattle.iref_grammar.specs.{AuthorityKey.{authority_key}, Guard.{guarded, made_absolute, with_dot}, Key.{key}}
+use Rattle.iref_grammar.specs.{NormalList.{is_dot_dot, normal_segments}, PathKey.{path_key}}
+use Rattle.iref_grammar.proofs.MappedLemmas.{length-escape}
 use Rattle.iref_path.specs.Spelling.{each_closed}
 use Rattle.iref_path.proofs.SpellLemmas.{length-join, normal_size, size-cons}
 use Rattle.iref_canonical.specs.Canonical.{canonical_authority, canonical_host, canonical_items, canonical_name, canonical_parts, canonical_path, canonical_relative, canonical_text, encoded, encoded_byte, spelled_relative, spelled}

@@ -10,7 +10,7 @@ use Rattle.iref_grammar.specs.Tests.{none_or, is_scheme, is_user_info, is_reg_na
 use Rattle.iref_grammar.specs.Authority.{AuthorityValue, has_authority_parts}
 use Rattle.iref_grammar.proofs.{TextLemmas.{first_of_both, second_of_both}, PctLemmas.{literal_lacks}}
 use Rattle.iref_grammar.proofs.LeafLemmas.{Decides-is_user_info, Decides-is_reg_name}
-use Rattle.iref_model.specs.AuthorityKey.{authority_key}
+use Rattle.iref_grammar.specs.AuthorityKey.{authority_key}
 use Rattle.iref_canonical.specs.Canonical.{encoded, canonical_host, canonical_authority}
 use Rattle.iref_canonical.proofs.EncodedTextLemmas.{IsPlain, decoded-encoded, encoded-in}
 use Rattle.iref_canonical.proofs.PlainCharacterLemmas.{plain_name, plain_user_info}

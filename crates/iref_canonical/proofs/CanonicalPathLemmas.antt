@@ -11,12 +11,12 @@ use Rattle.iref_grammar.specs.Grammar.{is_path_char, is_user_info_char, is_reg_n
 use Rattle.iref_grammar.specs.{Tests.{is_segment, owed_after}, Texts.{is_empty}, PathValue.{PathValue, is_one_empty}}
 use Rattle.iref_grammar.specs.Contexts.{follows_authority}
 use Rattle.iref_grammar.proofs.LeafLemmas.{Decides-is_segment}
-use Rattle.iref_model.specs.Guard.{guarded}
-use Rattle.iref_model.specs.NormalList.{is_dot, is_dot_dot, is_name, without_lone_empty, normal_segments, ends_in_dots, closed, staying_names, open_parents}
-use Rattle.iref_model.specs.PathKey.{path_key}
-use Rattle.iref_model.proofs.JoinedLemmas.{are_names, climbs, open-names, staying-names}
-use Rattle.iref_model.proofs.{NormalPathLemmas.{normal-guarded}, PathGrammarLemmas.{is_segment-dot_dot}}
-use Rattle.iref_model.proofs.SettledLemmas.{leading, normal-is, ends-names}
+use Rattle.iref_grammar.specs.Guard.{guarded}
+use Rattle.iref_grammar.specs.NormalList.{is_dot, is_dot_dot, is_name, without_lone_empty, normal_segments, ends_in_dots, closed, staying_names, open_parents}
+use Rattle.iref_grammar.specs.PathKey.{path_key}
+use Rattle.iref_grammar.proofs.JoinedLemmas.{are_names, climbs, open-names, staying-names}
+use Rattle.iref_grammar.proofs.{NormalPathLemmas.{normal-guarded}, PathGrammarLemmas.{is_segment-dot_dot}}
+use Rattle.iref_grammar.proofs.SettledLemmas.{leading, normal-is, ends-names}
 use Rattle.iref_canonical.specs.Canonical.{encoded, canonical_name, canonical_relative, canonical_items, canonical_path, spelled_relative}
 use Rattle.iref_canonical.proofs.{EncodedTextLemmas.{decoded-encoded, encoded-in}, PlainCharacterLemmas.{plain_path}}
 

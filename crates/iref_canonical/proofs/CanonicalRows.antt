@@ -6,8 +6,8 @@ use Rattle.iref_grammar.specs.{Rules.{Text}, IpAddresses.{ipv4_value, ipv6_value
 use Rattle.iref_grammar.specs.Grammar.{is_reg_name_char, is_user_info_char, is_path_char, is_fragment_char, is_query_char}
 use Rattle.iref_grammar.specs.{Tests.{is_ipvfuture, is_ip_literal}, Authority.{read_authority, spell_authority}}
 use Rattle.iref_grammar.specs.{PathValue.{read_path, spell_path}, Reference.{read_reference, spell}}
-use Rattle.iref_model.specs.{Guard.{guarded}, NormalList.{normal_segments, excess, staying_names}, PathKey.{path_key}}
-use Rattle.iref_model.specs.Key.{key}
+use Rattle.iref_grammar.specs.{Guard.{guarded}, NormalList.{normal_segments, excess, staying_names}, PathKey.{path_key}}
+use Rattle.iref_grammar.specs.Key.{key}
 use Rattle.iref_canonical.specs.Canonical.{canonical_text, encoded, spelled, spelled_relative}
 
 -- the canonical text of a text

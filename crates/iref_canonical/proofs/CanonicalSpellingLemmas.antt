@@ -6,8 +6,8 @@ use Rattle.iref_grammar.specs.{Characters.{uri_chars}, ComponentTexts.{Component
 use Rattle.iref_grammar.specs.Grammar.{colon, hash_sign, is_fragment_char, question_mark}
 use Rattle.iref_grammar.specs.{Authority.{read_authority, spell_authority}, PathValue.{read_path, spell_path}}
 use Rattle.iref_grammar.specs.{Reference.{context_of, spell}, Rules.{Text}, Texts.{part_then, then_part}}
-use Rattle.iref_model.specs.{AuthorityKey.{authority_key}, Guard.{guarded}, Key.{key}, PathKey.{path_key}}
-use Rattle.iref_model.proofs.MappedMarkLemmas.{is_some-map}
+use Rattle.iref_grammar.specs.{AuthorityKey.{authority_key}, Guard.{guarded}, Key.{key}, PathKey.{path_key}}
+use Rattle.iref_grammar.proofs.MappedMarkLemmas.{is_some-map}
 use Rattle.iref_canonical.specs.Canonical.{encoded, spelled, spelled_authority, spelled_parts, spelled_path, stands}
 use Rattle.iref_canonical.specs.CanonicalParts.{encoded_authority, encoded_query}
 use Rattle.iref_canonical.proofs.SetLemmas.{encoded-fragment, encoded-query}

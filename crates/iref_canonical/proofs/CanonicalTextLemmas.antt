@@ -5,9 +5,9 @@ use Rattle.iref_grammar.specs.{Characters.{CharTests, AreAboveAscii, uri_chars, 
 use Rattle.iref_grammar.specs.Grammar.{IsUri, IsUriReference}
 use Rattle.iref_grammar.specs.Reference.{ReferenceValue, IsReadable, read_reference, is_reference, is_uri}
 use Rattle.iref_grammar.proofs.ReferenceRuleLemmas.{Decides-is_readable, Decides-is_uri_reference, Decides-is_uri, reference_read, one_spelling, in_utf8-reference, in_utf8-full}
-use Rattle.iref_model.specs.{Key.{key, AreAlike}, Mapping.{mapped}}
-use Rattle.iref_model.proofs.AsciiReferenceLemmas.{is_reference-ascii}
-use Rattle.iref_model.proofs.MappedReferenceLemmas.{readable_text, key-mapped_text}
+use Rattle.iref_grammar.specs.{Key.{key, AreAlike}, Mapping.{mapped}}
+use Rattle.iref_grammar.proofs.AsciiReferenceLemmas.{is_reference-ascii}
+use Rattle.iref_grammar.proofs.MappedReferenceLemmas.{readable_text, key-mapped_text}
 use Rattle.iref_canonical.specs.Canonical.{canonical, canonical_text}
 use Rattle.iref_canonical.proofs.CanonicalKeyLemmas.{is_key, readable-canonical, key-canonical, scheme-canonical}
 

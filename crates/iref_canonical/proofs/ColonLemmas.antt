@@ -4,7 +4,7 @@ use Rattle.std.specs.Char.{char_set_contains}
 use Rattle.percent_encoding.specs.Percent.{percent_decode}
 use Rattle.percent_encoding.proofs.PercentLemmas.{percent_decode-nil}
 use Rattle.iref_grammar.specs.Rules.{Text}
-use Rattle.iref_model.proofs.ComparisonLemmas.{empty-decoded}
+use Rattle.iref_grammar.proofs.ComparisonLemmas.{empty-decoded}
 use Rattle.iref_path.proofs.PathTextLemmas.{nothing}
 use Rattle.iref_canonical.specs.Decoded.{SplitsLast}
 

@@ -7,8 +7,8 @@ use Rattle.percent_encoding.specs.Percent.{percent_sign, percent_encode_byte, pe
 use Rattle.percent_encoding.proofs.PercentLemmas.{IsByte, percent_decode-nil, percent_decode_not_percent, percent_decode-percent_encode_byte}
 use Rattle.iref_grammar.specs.{Rules.{Text, InUtf8}, Grammar.{IsEncoded}, Tests.{is_encoded, is_encoded_after}}
 use Rattle.iref_grammar.proofs.EncodedLemmas.{by_percent, by_digit, take_char, Decides-is_encoded}
-use Rattle.iref_model.proofs.{MappedLemmas.{escape_ascii}, MappedMarkLemmas.{glyph_hex}}
-use Rattle.iref_model.proofs.MappedRuleLemmas.{ascii_in_utf8}
+use Rattle.iref_grammar.proofs.{MappedLemmas.{escape_ascii}, MappedMarkLemmas.{glyph_hex}}
+use Rattle.iref_grammar.proofs.MappedRuleLemmas.{ascii_in_utf8}
 use Rattle.iref_canonical.specs.Canonical.{encoded}
 
 pub encoded-nil : (test : ℕ → Bool) → encoded test [] ≡ []

@@ -6,9 +6,9 @@ use Rattle.iref_grammar.specs.{PathValue.{PathValue}, Reference.{ReferenceValue,
 use Rattle.iref_grammar.specs.Tests.{is_segment}
 use Rattle.iref_grammar.proofs.{LeafLemmas.{Decides-is_segment}, PartRuleLemmas.{Decides-all}}
 use Rattle.iref_grammar.proofs.ReferenceRuleLemmas.{Decides-is_readable, one_spelling}
-use Rattle.iref_model.specs.{Key.{key}, Mapping.{mapped}, NormalList.{normal_segments}, PathKey.{path_key}}
-use Rattle.iref_model.proofs.{NormalGrammarLemmas.{takes_dots}, SettledLemmas.{lone-normal}}
-use Rattle.iref_model.proofs.StepSegmentLemmas.{normal-in}
+use Rattle.iref_grammar.specs.{Key.{key}, Mapping.{mapped}, NormalList.{normal_segments}, PathKey.{path_key}}
+use Rattle.iref_grammar.proofs.{NormalGrammarLemmas.{takes_dots}, SettledLemmas.{lone-normal}}
+use Rattle.iref_grammar.proofs.StepSegmentLemmas.{normal-in}
 use Rattle.iref_splice.specs.Fed.{IsSelfDelimiting}
 use Rattle.iref_splice.proofs.DelimitLemmas.{text-delimits}
 use Rattle.iref_canonical.specs.Canonical.{canonical, canonical_text, hashed_text}

@@ -7,7 +7,7 @@ use Rattle.std.specs.{Str.{str_to_ascii_lowercase}, Hash.{HashWrites, le_bytes, 
 use Rattle.percent_encoding.specs.Percent.{percent_decode, percent_encode_byte, percent_sign}
 use Rattle.percent_encoding.proofs.PercentLemmas.{percent_decode-nil, percent_decode_not_percent, percent_decode-percent_encode_byte}
 use Rattle.iref_grammar.specs.{Authority.{AuthorityValue}, Reference.{ReferenceValue}, Rules.{Text}}
-use Rattle.iref_model.proofs.MappedLemmas.{escape_ascii}
+use Rattle.iref_grammar.proofs.MappedLemmas.{escape_ascii}
 use Rattle.iref_parse.specs.Plain.{is_unescaped_byte}
 use Rattle.iref_splice.specs.Fed.{is_unended, IsSelfDelimiting}
 use Rattle.iref_splice.proofs.DelimitLemmas.{text-delimits}

@@ -6,9 +6,9 @@ use Rattle.iref_grammar.specs.IpAddresses.{ipv4_value, ipv6_value}
 use Rattle.iref_grammar.specs.Grammar.{is_reg_name_char, is_user_info_char, is_path_char, is_fragment_char, is_query_char}
 use Rattle.iref_grammar.specs.{Tests.{is_ipvfuture, is_ip_literal}, Authority.{read_authority, spell_authority}}
 use Rattle.iref_grammar.specs.{PathValue.{read_path, spell_path}, Reference.{read_reference, spell}}
-use Rattle.iref_model.specs.{Guard.{guarded}, Key.{key}, NormalList.{normal_segments, excess, staying_names}}
-use Rattle.iref_model.specs.PathKey.{path_key}
-use Rattle.iref_model.proofs.Rows.{utf8}
+use Rattle.iref_grammar.specs.{Guard.{guarded}, Key.{key}, NormalList.{normal_segments, excess, staying_names}}
+use Rattle.iref_grammar.specs.PathKey.{path_key}
+use Rattle.iref_grammar.proofs.Rows.{utf8}
 use Rattle.iref_splice.specs.Fed.{fed_text, waiting_after, written_after}
 use Rattle.iref_canonical.specs.{Canonical.{encoded, spelled, spelled_relative}, Hashed.{fed_lone_path, fed_reference}}
 use Rattle.iref_canonical.specs.HashedParts.{fed_part}

@@ -11,11 +11,11 @@ use Rattle.iref_grammar.specs.{PathValue.{PathValue, spell_path}, Reference.{Ref
 use Rattle.iref_grammar.specs.{Rules.{Text}, Tests.{none_or, is_ip_literal, is_port, is_scheme}}
 use Rattle.iref_grammar.specs.Texts.{is_empty, part_then, then_part}
 use Rattle.iref_grammar.proofs.HostRuleLemmas.{Decides-is_ip_literal, join_all, literal_ascii}
-use Rattle.iref_model.specs.{ComponentSteps.{guarded_reference}, Guard.{guarded, made_absolute, with_dot}}
-use Rattle.iref_model.specs.{Mapping.{mapped, mapped_authority, mapped_reference}, NormalList.{is_dot, is_dot_dot}}
-use Rattle.iref_model.proofs.MappedLemmas.{escape_ascii, mapped-append, mapped-ascii, mapped-escaped, mapped-kept, mapped-nil}
-use Rattle.iref_model.proofs.MappedResolutionLemmas.{guarded_reference-mapped}
-use Rattle.iref_model.proofs.{MappedRuleLemmas.{port_ascii, scheme_ascii}, MappedSpellingLemmas.{spell-mapped}}
+use Rattle.iref_grammar.specs.{ComponentSteps.{guarded_reference}, Guard.{guarded, made_absolute, with_dot}}
+use Rattle.iref_grammar.specs.{Mapping.{mapped, mapped_authority, mapped_reference}, NormalList.{is_dot, is_dot_dot}}
+use Rattle.iref_grammar.proofs.MappedLemmas.{escape_ascii, mapped-append, mapped-ascii, mapped-escaped, mapped-kept, mapped-nil}
+use Rattle.iref_grammar.proofs.MappedResolutionLemmas.{guarded_reference-mapped}
+use Rattle.iref_grammar.proofs.{MappedRuleLemmas.{port_ascii, scheme_ascii}, MappedSpellingLemmas.{spell-mapped}}
 use Rattle.iref_splice.specs.Fed.{is_unended}
 use Rattle.iref_canonical.specs.Canonical.{canonical_text, encoded, encoded_byte, hashed_text, spelled, spelled_authority, spelled_host, spelled_name, spelled_parts, spelled_relative, stands}
 use Rattle.iref_canonical.proofs.{CanonicalKeyLemmas.{IsKey}, CanonicalPartLemmas.{IsAuthorityKey}}

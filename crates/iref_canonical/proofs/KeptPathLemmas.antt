@@ -9,7 +9,7 @@ use Rattle.iref_grammar.specs.{declared.context.PathContext.{PathContext}, Chara
 use Rattle.iref_grammar.specs.Grammar.{slash, is_path_char, is_reg_name_char, is_user_info_char}
 use Rattle.iref_grammar.specs.{PathValue.{begins_empty, read_path, spell_path}, Rules.{Text}, Texts.{lacks, pieces_at}}
 use Rattle.iref_grammar.proofs.{LackLemmas.{all_lacks}, PathLemmas.{read_path-reads}}
-use Rattle.iref_model.specs.{Guard.{guarded}, NormalList.{is_name}, PathKey.{path_key}}
+use Rattle.iref_grammar.specs.{Guard.{guarded}, NormalList.{is_name}, PathKey.{path_key}}
 use Rattle.iref_parse.specs.{Dots.{begins_with_dot, has_dot_segment, is_some_dotted}, Plain.{is_path_byte}}
 use Rattle.iref_path.proofs.{DotlessLemmas.{dotless_name}, GuardTextLemmas.{guarded-same}}
 use Rattle.iref_canonical.specs.Canonical.{encoded, is_raw, spelled_list, spelled_name, spelled_path, spelled_relative, stands}

@@ -5,7 +5,7 @@ use Rattle.std.specs.Str.{bytes_eq}
 use Rattle.percent_encoding.specs.Percent.{percent_decode}
 use Rattle.percent_encoding.proofs.PercentLemmas.{length-percent_decode, percent_decode-nil, percent_decode_not_percent}
 use Rattle.iref_grammar.specs.Rules.{Text}
-use Rattle.iref_model.specs.NormalList.{is_dot, is_dot_dot}
+use Rattle.iref_grammar.specs.NormalList.{is_dot, is_dot_dot}
 use Rattle.iref_canonical.specs.SpelledItems.{begins_as_dots}
 
 longer : (s t : Text) → length t < length s → bytes_eq s t ≡ false

@@ -2,7 +2,7 @@
 use Rattle.std.proofs.Common.{refl}
 use Rattle.iref_grammar.specs.Characters.{uri_chars}
 use Rattle.iref_grammar.specs.Grammar.{is_reg_name_char, is_user_info_char, is_path_char, is_fragment_char, is_query_char}
-use Rattle.iref_model.proofs.AsciiReferenceLemmas.{reg_name_ascii, user_info_ascii, path_ascii, fragment_ascii, query_ascii}
+use Rattle.iref_grammar.proofs.AsciiReferenceLemmas.{reg_name_ascii, user_info_ascii, path_ascii, fragment_ascii, query_ascii}
 use Rattle.iref_canonical.proofs.EncodedTextLemmas.{IsPlain}
 
 pub plain_name : IsPlain (is_reg_name_char uri_chars)

@@ -14,12 +14,12 @@ use Rattle.iref_grammar.specs.PathValue.{PathValue, is_one_empty, shows_its_list
 use Rattle.iref_grammar.specs.Reference.{ReferenceValue, context_of, is_readable, is_reference, read_reference, spell}
 use Rattle.iref_grammar.proofs.{PctLemmas.{literal_lacks}, ReadablePartsLemmas.{readable_parts}}
 use Rattle.iref_grammar.proofs.ReferenceCutLemmas.{read_reference-spelled}
-use Rattle.iref_model.specs.{AuthorityKey.{authority_key}, ComponentSteps.{guarded_reference}}
-use Rattle.iref_model.specs.{NormalList.{is_dot, is_dot_dot, is_name, normal_segments}, PathKey.{path_key}, Key.{key}}
-use Rattle.iref_model.specs.Mapping.{mapped, mapped_authority, mapped_reference}
+use Rattle.iref_grammar.specs.{AuthorityKey.{authority_key}, ComponentSteps.{guarded_reference}}
+use Rattle.iref_grammar.specs.{NormalList.{is_dot, is_dot_dot, is_name, normal_segments}, PathKey.{path_key}, Key.{key}}
+use Rattle.iref_grammar.specs.Mapping.{mapped, mapped_authority, mapped_reference}
 use Rattle.iref_parse.specs.Dots.{begins_with_dot, is_some_dotted, has_dot_segment}
-use Rattle.iref_model.proofs.AsciiReferenceLemmas.{is_reference-mapped, read_reference-tested}
-use Rattle.iref_model.proofs.MappedLemmas.{mapped-ascii, mapped-escaped, mapped-kept}
+use Rattle.iref_grammar.proofs.AsciiReferenceLemmas.{is_reference-mapped, read_reference-tested}
+use Rattle.iref_grammar.proofs.MappedLemmas.{mapped-ascii, mapped-escaped, mapped-kept}
 use Rattle.iref_path.proofs.{DotlessLemmas.{dotless_name, normal_segments-dotless}, GuardTextLemmas.{guarded-same}}
 use Rattle.iref_canonical.specs.Canonical.{encoded, spelled, spelled_authority, spelled_host, spelled_list, spelled_name, spelled_parts, spelled_path, spelled_relative, stands}
 use Rattle.iref_canonical.specs.{Decoded.{are_standing, is_standing}, Lower.{is_lower, is_lower_byte}}

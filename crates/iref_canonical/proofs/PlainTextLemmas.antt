@@ -8,8 +8,8 @@ use Rattle.percent_encoding.specs.Percent.{percent_sign, percent_decode}
 use Rattle.iref_grammar.specs.{Rules.{Text}, Grammar.{is_not_percent}, Tests.{is_encoded, is_encoded_after, in_utf8}}
 use Rattle.iref_grammar.proofs.{EncodedLemmas.{by_char, if_taken}, TextLemmas.{first_of_both, second_of_both}}
 use Rattle.iref_grammar.proofs.{LackLemmas.{all_lacks}, Utf8RuleLemmas.{in_utf8-ascii}}
-use Rattle.iref_model.specs.Mapping.{mapped}
-use Rattle.iref_model.proofs.MappedLemmas.{ascii-mapped, mapped-escaped, mapped-kept}
+use Rattle.iref_grammar.specs.Mapping.{mapped}
+use Rattle.iref_grammar.proofs.MappedLemmas.{ascii-mapped, mapped-escaped, mapped-kept}
 use Rattle.iref_splice.specs.Fed.{is_unended}
 use Rattle.iref_canonical.specs.{Canonical.{encoded, is_raw, stands}, Decoded.{are_standing, is_standing}}
 use Rattle.iref_canonical.proofs.CanonicalPartLemmas.{decoded-lacks}

@@ -10,7 +10,7 @@ use Rattle.iref_grammar.specs.{Rules.{Text}, Tests.{is_ip_literal}, Texts.{begin
 use Rattle.iref_grammar.proofs.AuthorityLemmas.{read_authority-back}
 use Rattle.iref_grammar.proofs.{HostRuleLemmas.{Decides-is_ip_literal, literal_ascii}, CutLemmas.{first_lacks}}
 use Rattle.iref_grammar.proofs.LackLemmas.{all_lacks}
-use Rattle.iref_model.specs.AuthorityKey.{authority_key}
+use Rattle.iref_grammar.specs.AuthorityKey.{authority_key}
 use Rattle.iref_parse.specs.{AuthoritySlices.{authority_of}, Plain.{is_name_byte}}
 use Rattle.iref_parse.specs.declared.authority.AuthoritySlices.{AuthoritySlices}
 use Rattle.iref_canonical.specs.Canonical.{encoded, is_raw, spelled_authority, spelled_host, stands}

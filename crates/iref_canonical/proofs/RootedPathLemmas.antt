@@ -5,7 +5,7 @@ use Rattle.percent_encoding.specs.Percent.{percent_decode}
 use Rattle.percent_encoding.proofs.PercentLemmas.{percent_decode-nil}
 use Rattle.iref_grammar.specs.{declared.context.PathContext.{PathContext}, Grammar.{slash}}
 use Rattle.iref_grammar.specs.{PathValue.{PathValue, read_path, spell_path}, Rules.{Text}}
-use Rattle.iref_model.specs.{Guard.{guarded}, NormalList.{normal_segments, without_lone_empty}, PathKey.{path_key}}
+use Rattle.iref_grammar.specs.{Guard.{guarded}, NormalList.{normal_segments, without_lone_empty}, PathKey.{path_key}}
 use Rattle.iref_path.specs.{NormalItems.{first_or}, Spelling.{guard_in}}
 use Rattle.iref_canonical.specs.{Canonical.{encoded, spelled_name, spelled_path}, KeptPaths.{rooted_text}}
 use Rattle.iref_canonical.specs.SpelledItems.{spelled_items, standing_of}

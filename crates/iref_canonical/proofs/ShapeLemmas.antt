@@ -8,8 +8,8 @@ use Rattle.percent_encoding.proofs.PercentLemmas.{percent_decode-nil}
 use Rattle.iref_grammar.specs.{declared.context.PathContext.{PathContext}, Characters.{uri_chars}}
 use Rattle.iref_grammar.specs.{Grammar.{colon, slash, is_path_char, is_user_info_char}, Rules.{Text}, Texts.{is_empty}}
 use Rattle.iref_grammar.specs.PathValue.{PathValue, is_one_empty, spell_path}
-use Rattle.iref_model.specs.{Guard.{guarded}, NormalList.{is_dot, is_dot_dot, normal_segments}, PathKey.{path_key}}
-use Rattle.iref_model.proofs.{ComparisonLemmas.{empty-decoded}, RewritingLemmas.{not_lone}, SettledLemmas.{lone-normal}}
+use Rattle.iref_grammar.specs.{Guard.{guarded}, NormalList.{is_dot, is_dot_dot, normal_segments}, PathKey.{path_key}}
+use Rattle.iref_grammar.proofs.{ComparisonLemmas.{empty-decoded}, RewritingLemmas.{not_lone}, SettledLemmas.{lone-normal}}
 use Rattle.iref_path.specs.{NormalItems.{first_or}, Spelling.{each_closed, guard, guard_in}}
 use Rattle.iref_path.proofs.SpellLemmas.{list-spelled, size-cons}
 use Rattle.iref_canonical.specs.Canonical.{encoded, spelled_list, spelled_name, spelled_path, spelled_relative, stands}

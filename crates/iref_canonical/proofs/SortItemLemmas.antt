@@ -6,7 +6,7 @@ use Rattle.std.specs.List.{flat_map, list_all, onto_first}
 use Rattle.percent_encoding.specs.Percent.{percent_decode}
 use Rattle.iref_grammar.specs.{Grammar.{slash}, Rules.{Text}, Texts.{pieces_at}}
 use Rattle.iref_grammar.specs.PathValue.{PathValue, is_one_empty, read_path, segments_of}
-use Rattle.iref_model.specs.PathKey.{path_key}
+use Rattle.iref_grammar.specs.PathKey.{path_key}
 use Rattle.iref_parse.specs.Dots.{is_some_dotted, has_dot_segment}
 use Rattle.iref_path.specs.Spelling.{each_closed}
 use Rattle.iref_path.proofs.DotlessLemmas.{both_size, normal_segments-dotless, whole_text}

@@ -4,8 +4,8 @@ use Rattle.std.proofs.{lemmas.Grind.{common_steps}, lemmas.Bool.Decides.{nat_tes
 use Rattle.std.specs.{Option.{option_cmp}, Ordering.{nat_cmp, bool_cmp, ordering_then, then_cmp, on}}
 use Rattle.std.specs.{List.{flat_map}, Cmp.{tied_itself}, Cmp.Lexicographic.{slice_cmp}}
 use Rattle.iref_grammar.specs.{Authority.{AuthorityValue}, Reference.{ReferenceValue}, Keys.{text_order}, Rules.{Text}}
-use Rattle.iref_model.specs.{AuthorityKey.{authority_key_cmp}, PathKey.{path_key_cmp}, Key.{key_cmp}}
-use Rattle.iref_model.proofs.KeyOrderLemmas.{keys_separate, texts_total}
+use Rattle.iref_grammar.specs.{AuthorityKey.{authority_key_cmp}, PathKey.{path_key_cmp}, Key.{key_cmp}}
+use Rattle.iref_grammar.proofs.KeyOrderLemmas.{keys_separate, texts_total}
 use Rattle.iref_canonical.specs.SortKey.{sort_byte, sort_list, sort_option, sort_text, sort_item, sort_path, sort_authority, sort_key}
 
 -- The bytes of values stand in the order of the values, whatever bytes follow: where two values tie, what follows decides.

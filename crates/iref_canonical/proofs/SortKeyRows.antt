@@ -5,7 +5,7 @@ use Rattle.std.specs.{Char.{encode_utf8}, Ordering.{is_lt}}
 use Rattle.percent_encoding.specs.Percent.{percent_decode}
 use Rattle.iref_grammar.specs.{Rules.{Text}, Keys.{text_order}, Authority.{read_authority}, PathValue.{read_path}}
 use Rattle.iref_grammar.specs.Reference.{read_reference}
-use Rattle.iref_model.specs.{NormalList.{normal_segments, excess, staying_names}, PathKey.{path_key}, Key.{key}}
+use Rattle.iref_grammar.specs.{NormalList.{normal_segments, excess, staying_names}, PathKey.{path_key}, Key.{key}}
 use Rattle.iref_canonical.specs.SortKey.{sort_text, sort_path, sort_authority, sort_key}
 
 abbrev sorted : String → Text

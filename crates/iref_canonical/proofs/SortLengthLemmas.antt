@@ -9,7 +9,7 @@ use Rattle.iref_grammar.specs.Grammar.{at_sign, colon, hash_sign, question_mark,
 use Rattle.iref_grammar.specs.{PathValue.{PathValue, spell_path}, Reference.{ReferenceValue, read_reference, spell}}
 use Rattle.iref_grammar.specs.{Rules.{Text}, Texts.{part_then, then_part}}
 use Rattle.iref_grammar.proofs.ReferenceCutLemmas.{read_reference-spelled}
-use Rattle.iref_model.specs.{AuthorityKey.{authority_key}, Key.{key}, NormalList.{normal_segments}, PathKey.{path_key}}
+use Rattle.iref_grammar.specs.{AuthorityKey.{authority_key}, Key.{key}, NormalList.{normal_segments}, PathKey.{path_key}}
 use Rattle.iref_path.specs.Spelling.{each_closed}
 use Rattle.iref_path.proofs.SpellLemmas.{length-join, normal_size, size-cons}
 use Rattle.iref_canonical.specs.SortKey.{sort_authority, sort_byte, sort_item, sort_key, sort_list, sort_option, sort_text}

@@ -8,10 +8,10 @@ use Rattle.std.specs.{Cmp.{IsTotalOrder, both_ways, on_total, then_total}, Cmp.L
 use Rattle.percent_encoding.specs.Percent.{percent_decode}
 use mathlib.Core.Bool.{beq}
 use Rattle.iref_grammar.specs.{Keys.{text_order}, PathValue.{PathValue}, Reference.{ReferenceValue}, Rules.{Text}}
-use Rattle.iref_model.specs.{AuthorityKey.{authority_key_cmp}, Key.{key}, NormalList.{normal_segments}}
-use Rattle.iref_model.specs.{PathKey.{path_key}, PathSuffix.{is_decoded_beginning, path_suffix}}
-use Rattle.iref_model.specs.ReferenceSuffix.{reference_suffix}
-use Rattle.iref_model.proofs.KeyOrderLemmas.{authority_keys_total, texts_total}
+use Rattle.iref_grammar.specs.{AuthorityKey.{authority_key_cmp}, Key.{key}, NormalList.{normal_segments}}
+use Rattle.iref_grammar.specs.{PathKey.{path_key}, PathSuffix.{is_decoded_beginning, path_suffix}}
+use Rattle.iref_grammar.specs.ReferenceSuffix.{reference_suffix}
+use Rattle.iref_grammar.proofs.KeyOrderLemmas.{authority_keys_total, texts_total}
 use Rattle.iref_canonical.specs.SortKey.{sort_authority, sort_item, sort_key, sort_list, sort_option, sort_path, sort_text}
 use Rattle.iref_canonical.specs.SortPrefix.{is_between, sort_path_prefix, sort_prefix, sort_prefix_end}
 use Rattle.iref_canonical.proofs.SortKeyLemmas.{KeepsOrder, authorities_keep, both_keep, on_keeps, options_keep, texts_keep}

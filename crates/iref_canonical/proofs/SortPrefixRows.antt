@@ -5,8 +5,8 @@ use Rattle.std.specs.{Char.{encode_utf8}, List.{starts_with}}
 use Rattle.percent_encoding.specs.Percent.{percent_decode}
 use Rattle.iref_grammar.specs.{Authority.{read_authority}, PathValue.{read_path}}
 use Rattle.iref_grammar.specs.{Reference.{ReferenceValue, read_reference}, Rules.{Text}}
-use Rattle.iref_model.specs.{Key.{key}, NormalList.{excess, normal_segments, staying_names}, PathKey.{path_key}}
-use Rattle.iref_model.specs.{PathSuffix.{path_suffix}, ReferenceSuffix.{reference_suffix}}
+use Rattle.iref_grammar.specs.{Key.{key}, NormalList.{excess, normal_segments, staying_names}, PathKey.{path_key}}
+use Rattle.iref_grammar.specs.{PathSuffix.{path_suffix}, ReferenceSuffix.{reference_suffix}}
 use Rattle.iref_canonical.specs.SortKey.{sort_authority, sort_key, sort_path, sort_text}
 use Rattle.iref_canonical.specs.SortPrefix.{is_between, sort_path_prefix, sort_prefix, sort_prefix_end}
 

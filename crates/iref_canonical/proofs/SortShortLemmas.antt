@@ -11,7 +11,7 @@ use Rattle.iref_grammar.specs.PathValue.{PathValue, read_path, segments_of}
 use Rattle.iref_grammar.specs.{Reference.{ReferenceValue, read_reference, spell}, Rules.{Text}, Tests.{none_or}}
 use Rattle.iref_grammar.specs.Texts.{part_then, pieces_at, then_part}
 use Rattle.iref_grammar.proofs.ReferenceCutLemmas.{read_reference-spelled}
-use Rattle.iref_model.specs.{AuthorityKey.{authority_key}, Key.{key}, PathKey.{path_key}}
+use Rattle.iref_grammar.specs.{AuthorityKey.{authority_key}, Key.{key}, PathKey.{path_key}}
 use Rattle.iref_parse.specs.{Dots.{has_dot_segment}, ReferenceSlices.{texts_of, value_of}}
 use Rattle.iref_parse.specs.declared.split.ReferenceSlices.{ReferenceSlices}
 use Rattle.iref_canonical.specs.{SortBytes.{is_kept, are_kept_parts}, SortItems.{AreKept}}

@@ -5,8 +5,8 @@ use Rattle.std.proofs.lemmas.Bool.Decides.{nat_tests}
 use Rattle.std.specs.{List.{join_with_byte}, Cmp.Lexicographic.{bytes_decides}}
 use Rattle.percent_encoding.specs.Percent.{percent_decode}
 use Rattle.iref_grammar.specs.{Grammar.{slash}, Rules.{Text}, Texts.{is_empty}}
-use Rattle.iref_model.specs.NormalList.{is_dot_dot}
-use Rattle.iref_model.proofs.FitsLemmas.{is_empty-snoc}
+use Rattle.iref_grammar.specs.NormalList.{is_dot_dot}
+use Rattle.iref_grammar.proofs.FitsLemmas.{is_empty-snoc}
 use Rattle.iref_path.specs.Spelling.{each_closed}
 use Rattle.iref_path.proofs.SpellLemmas.{each_closed-append, joined_before}
 use Rattle.iref_canonical.specs.Canonical.{spelled_name, spelled_relative}

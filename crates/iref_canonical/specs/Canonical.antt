@@ -6,7 +6,7 @@ use Rattle.iref_grammar.specs.{Authority.{AuthorityValue}, Characters.{uri_chars
 use Rattle.iref_grammar.specs.Grammar.{is_fragment_char, is_path_char, is_query_char, is_reg_name_char, is_user_info_char}
 use Rattle.iref_grammar.specs.{PathValue.{PathValue}, Reference.{ReferenceValue, spell}, Rules.{Text}}
 use Rattle.iref_grammar.specs.{Tests.{is_ip_literal}, Texts.{is_empty}}
-use Rattle.iref_model.specs.{ComponentSteps.{guarded_reference}, NormalList.{is_dot, is_dot_dot}}
+use Rattle.iref_grammar.specs.{ComponentSteps.{guarded_reference}, NormalList.{is_dot, is_dot_dot}}
 
 -- a byte that passes the test stands; any other becomes `%` and two upper-case hexadecimal digits
 abbrev pub encoded_byte : (ℕ → Bool) → ℕ → Text

@@ -3,7 +3,7 @@ use Rattle.std.specs.Prelude.{Bool, Option, option_map}
 use Rattle.percent_encoding.specs.Percent.{percent_decode}
 use Rattle.iref_grammar.specs.{Authority.{read_authority, spell_authority}, Characters.{uri_chars}}
 use Rattle.iref_grammar.specs.{Grammar.{is_query_char}, Rules.{Text}}
-use Rattle.iref_model.specs.AuthorityKey.{authority_key}
+use Rattle.iref_grammar.specs.AuthorityKey.{authority_key}
 use Rattle.iref_canonical.specs.Canonical.{encoded, spelled_authority, stands}
 
 -- a query or a fragment, of which the same characters stand

@@ -2,7 +2,7 @@
 use Rattle.std.specs.{Prelude.{◌≡◌, true, None}, Hash.{HashWrites}, List.{list_all}}
 use Rattle.iref_grammar.specs.{Characters.{CharTests, AreAboveAscii}, PathValue.{PathValue}}
 use Rattle.iref_grammar.specs.{Reference.{ReferenceValue, IsReadable}, Tests.{is_segment}}
-use Rattle.iref_model.specs.{Key.{key}, PathKey.{path_key}}
+use Rattle.iref_grammar.specs.{Key.{key}, PathKey.{path_key}}
 use Rattle.iref_splice.specs.Fed.{fed_text}
 use Rattle.iref_canonical.specs.Canonical.{hashed_text}
 

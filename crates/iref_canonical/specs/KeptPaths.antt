@@ -1,7 +1,7 @@
 -- Canonical paths: those that one scan finds, and those that are spelled anew.
 use Rattle.std.specs.{Prelude.{◌≡◌, Bool, true, false, not, ◌&&◌, ◌==◌, [], ◌∷◌, map}, List.{join_with_byte, list_all}}
 use Rattle.iref_grammar.specs.{Grammar.{slash}, PathValue.{read_path}, Rules.{Text}}
-use Rattle.iref_model.specs.PathKey.{path_key}
+use Rattle.iref_grammar.specs.PathKey.{path_key}
 use Rattle.iref_parse.specs.{Dots.{has_dot_segment}, Plain.{is_path_byte}}
 use Rattle.iref_canonical.specs.{Canonical.{spelled_name}, declared.path.CanonicalPath.{CanonicalPath}}
 use Rattle.iref_canonical.specs.declared.path.CanonicalPath.TheVariants.{Kept, Rooted, Spelled}

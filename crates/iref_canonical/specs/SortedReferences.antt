@@ -2,7 +2,7 @@
 use Rattle.std.specs.{Prelude.{◌≡◌, true, option_map}, Option.{option_copied}, Str.{str_to_ascii_lowercase}}
 use Rattle.percent_encoding.specs.Percent.{percent_decode}
 use Rattle.iref_grammar.specs.{Authority.{AuthorityValue, read_authority}, Reference.{ReferenceValue}, Rules.{Text}}
-use Rattle.iref_model.specs.AuthorityKey.{authority_key}
+use Rattle.iref_grammar.specs.AuthorityKey.{authority_key}
 use Rattle.iref_canonical.specs.{declared.sort_key.SortedReference.{SortedReference}, SortItems.{AreItems, items_of}}
 use Rattle.iref_canonical.specs.SortPuts.{AreKeptSlices}
 

@@ -2,7 +2,7 @@
 use Rattle.std.specs.Prelude.{◌≡◌, ℕ, zero, suc, ◌-◌, ◌≤◌, Bool, false, not, ◌&&◌, ◌||◌, ◌==◌, List, [], ◌∷◌, ◌++◌, map, codes, length, if◌then◌else◌}
 use Rattle.std.specs.List.{join_with_byte}
 use Rattle.iref_grammar.specs.{Grammar.{full_stop, percent_sign, slash}, Rules.{Text}, Texts.{is_empty}}
-use Rattle.iref_model.specs.NormalList.{is_dot_dot}
+use Rattle.iref_grammar.specs.NormalList.{is_dot_dot}
 use Rattle.iref_path.specs.NormalItems.{decoded_left, IsSound, normal_left}
 use Rattle.iref_canonical.specs.{Canonical.{spelled_name}, declared.path.SpelledPath.{SpelledPath}}
 

@@ -3,7 +3,7 @@ ghost use Rattle.std.specs.{Prelude.{◌≡◌, [], ◌∷◌, option_map}, Opti
 ghost use Rattle.percent_encoding.specs.Percent.{percent_decode};
 ghost use Rattle.iref_grammar.specs.{Authority.{read_authority, spell_authority}, Characters.{uri_chars}};
 ghost use Rattle.iref_grammar.specs.{Texts.{part_then, then_part}, Grammar.{at_sign, colon, is_user_info_char}};
-ghost use Rattle.iref_model.specs.AuthorityKey.{authority_key};
+ghost use Rattle.iref_grammar.specs.AuthorityKey.{authority_key};
 ghost use Rattle.iref_canonical.specs.Canonical.{encoded, spelled_authority, spelled_host, stands};
 
 use crate::encoded::{REG_NAME, USER_INFO, put_encoded};

@@ -3,7 +3,7 @@
 ghost use Rattle.std.specs.{Prelude.{◌≡◌, ◌↔◌, true, is_some}, List.{list_all}, Char.{is_ascii}};
 ghost use Rattle.iref_grammar.specs.{Characters.{uri_chars}, Rules.{Text, InUtf8}, Grammar.{IsUri, IsUriReference}};
 ghost use Rattle.iref_grammar.specs.Reference.{ReferenceValue, IsReadable, read_reference, is_reference, is_uri};
-ghost use Rattle.iref_model.specs.{Key.{AreAlike, key}, Mapping.{mapped}};
+ghost use Rattle.iref_grammar.specs.{Key.{AreAlike, key}, Mapping.{mapped}};
 ghost use Rattle.iref_canonical.specs.Canonical.{canonical, canonical_text};
 
 use iref_grammar::chars::CharSet;

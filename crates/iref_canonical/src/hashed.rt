@@ -1,7 +1,7 @@
 //! What a hasher reads of the keys of components.
 ghost use Rattle.std.specs.Prelude.{◌≡◌, fold};
 ghost use Rattle.iref_grammar.specs.PathValue.{read_path};
-ghost use Rattle.iref_model.specs.PathKey.{path_key};
+ghost use Rattle.iref_grammar.specs.PathKey.{path_key};
 ghost use Rattle.iref_canonical.specs.{Hashed.{fed_lone_path}, HashedParts.{fed_part, hashed_byte, hashed_bytes}};
 
 use crate::key_bytes::KeyBytes;
@@ -53,7 +53,7 @@ pub fn feed<B: KeyBytes, H: Hasher>(text: &str, state: &mut H)
 }
 
 /// Feeds a path to a hasher, as the reference that is this path alone.
-#[tactic(auto, unfolding(iref_model::specs::Key::key))]
+#[tactic(auto, unfolding(iref_grammar::specs::Key::key))]
 pub fn feed_path<H: Hasher>(path: &str, state: &mut H)
     ensures { state.new ≡ fold H.write state.old
         (fed_lone_path (path_key (read_path path.now))) }

@@ -2,7 +2,7 @@
 
 ghost use Rattle.std.specs.Prelude.{◌≤◌, ◌+◌, ◌*◌, length};
 ghost use Rattle.iref_grammar.specs.{Reference.{read_reference}, Rules.{Text}};
-ghost use Rattle.iref_model.specs.Key.{key};
+ghost use Rattle.iref_grammar.specs.Key.{key};
 ghost use Rattle.iref_canonical.specs.{Canonical.{canonical_text}, SortKey.{sort_key}};
 
 /// The sort key of a reference has at most twice the bytes of its text and ten more: of the two of

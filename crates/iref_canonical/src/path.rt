@@ -4,7 +4,7 @@ ghost use Rattle.std.specs.Prelude.{Bool, ◌≡◌, ◌-◌, ◌<◌, ◌≤◌
 ghost use Rattle.std.specs.{Char.{char_set_contains}, List.{join_with_byte}};
 ghost use Rattle.percent_encoding.specs.Percent.{percent_decode};
 ghost use Rattle.iref_grammar.specs.{Grammar.{colon, slash}, PathValue.{read_path, spell_path}, Texts.{is_empty}};
-ghost use Rattle.iref_model.specs.{Guard.{guarded}, NormalList.{is_dot, is_dot_dot}, PathKey.{path_key}};
+ghost use Rattle.iref_grammar.specs.{Guard.{guarded}, NormalList.{is_dot, is_dot_dot}, PathKey.{path_key}};
 ghost use Rattle.iref_path.specs.{NormalItems.{IsSound, decoded_left, normal_left}, Spelling.{each_closed}};
 ghost use Rattle.iref_canonical.specs.{Canonical.{spelled_name, spelled_path}, SpelledItems.{IsCounted}};
 ghost use Rattle.iref_canonical.specs.KeptPaths.{IsReady, canonical_path_text, is_kept_path, is_rooted, rooted_text};

@@ -1,7 +1,7 @@
 //! Texts that one scan finds to be canonical, or to be what is hashed.
 ghost use Rattle.std.specs.{Prelude.{◌≡◌, true}, Option.{option_copied}};
 ghost use Rattle.iref_grammar.specs.{Reference.{is_reference, read_reference, spell}, Tests.{none_or}};
-ghost use Rattle.iref_model.specs.Key.{key};
+ghost use Rattle.iref_grammar.specs.Key.{key};
 ghost use Rattle.iref_parse.specs.ReferenceSlices.{value_of};
 ghost use Rattle.iref_canonical.specs.{Canonical.{spelled}, Decoded.{are_standing}, Lower.{is_lower}};
 

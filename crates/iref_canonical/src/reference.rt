@@ -3,7 +3,7 @@
 ghost use Rattle.std.specs.Prelude.{◌≡◌, ◌∷◌, [], codes, option_map};
 ghost use Rattle.std.specs.{Option.{option_copied}, Str.{str_to_ascii_lowercase}};
 ghost use Rattle.iref_grammar.specs.{Grammar.{colon}, Reference.{spell}, Texts.{part_then, then_part}};
-ghost use Rattle.iref_model.specs.Key.{key};
+ghost use Rattle.iref_grammar.specs.Key.{key};
 ghost use Rattle.iref_parse.specs.ReferenceSlices.{value_of};
 ghost use Rattle.iref_canonical.specs.{Canonical.{spelled}, CanonicalParts.{encoded_authority, encoded_query}};
 ghost use Rattle.iref_canonical.specs.SpelledReferences.{IsMeasured, measured_spelling};

@@ -2,7 +2,7 @@
 
 ghost use Rattle.std.specs.Prelude.{◌≡◌, ◌++◌, IfOk, OnErr, OnOk};
 ghost use Rattle.iref_grammar.specs.{ComponentTexts.{spell_components}, Reference.{read_reference}};
-ghost use Rattle.iref_model.specs.Key.{key};
+ghost use Rattle.iref_grammar.specs.Key.{key};
 ghost use Rattle.iref_parse.specs.ReferenceSlices.{texts_of, value_of};
 ghost use Rattle.iref_canonical.specs.{SortKey.{sort_key}, SortPrefix.{sort_prefix}};
 ghost use Rattle.iref_canonical.specs.SortedReferences.{IsSorted, sorted_key};
@@ -33,7 +33,7 @@ pub(crate) struct SortedReference<'a> {
 
 impl<'a> SortedReference<'a> {
     /// The sort key of the reference of these components.
-    #[tactic(auto, unfolding(iref_model::specs::Key::key, iref_model::specs::PathKey::path_key))]
+    #[tactic(auto, unfolding(iref_grammar::specs::Key::key, iref_grammar::specs::PathKey::path_key))]
     pub(crate) fn new(text: &str, slices: ReferenceSlices<'a>) -> Self
         requires value { value_of slices ≡ read_reference text.now }
         requires texts { texts_of slices ≡ spell_components (read_reference text.now) }

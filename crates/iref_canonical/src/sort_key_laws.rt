@@ -3,7 +3,7 @@
 ghost use Rattle.std.specs.{declared.ops.Bound.TheVariants.{Excluded, Included}, BTreeMap.Range.{range_contains}};
 ghost use Rattle.std.specs.{List.{starts_with}, Prelude.{◌≡◌, ◌↔◌, ◌==◌, is_some}};
 ghost use Rattle.iref_grammar.specs.{Keys.{text_order}, Reference.{ReferenceValue}};
-ghost use Rattle.iref_model.specs.{Key.{key, key_cmp}, ReferenceSuffix.{reference_suffix}};
+ghost use Rattle.iref_grammar.specs.{Key.{key, key_cmp}, ReferenceSuffix.{reference_suffix}};
 ghost use Rattle.iref_canonical.specs.{SortKey.{sort_key}, SortPrefix.{is_between, sort_prefix, sort_prefix_end}};
 
 /// Sort keys, compared byte by byte and the shorter first, stand in the order of the keys.

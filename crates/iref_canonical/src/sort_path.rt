@@ -2,7 +2,7 @@
 
 ghost use Rattle.std.specs.{List.{flat_map}, Prelude.{◌≡◌, IfSome, false, length, true}};
 ghost use Rattle.iref_grammar.specs.PathValue.{read_path};
-ghost use Rattle.iref_model.specs.PathKey.{path_key};
+ghost use Rattle.iref_grammar.specs.PathKey.{path_key};
 ghost use Rattle.iref_path.specs.{NormalItems.{IsSound, decoded_left}, Pieces.{pieces_if_some}};
 ghost use Rattle.iref_canonical.specs.{SortItems.{AreItems, AreKept, items_of}, SortKey.{sort_item}};
 ghost use Rattle.iref_canonical.specs.SortBytes as bytes;
@@ -82,7 +82,7 @@ fn put_items<O: Backward>(out: &mut O, mut left: NormalItems<'_>)
 impl<'a> Items<'a> {
     /// The items of a path, and whether it is absolute. `kept` says that each byte is written as it
     /// is.
-    #[tactic(auto, using(crate::proofs::SortItemLemmas::kept_key), unfolding(iref_model::specs::PathKey::path_key))]
+    #[tactic(auto, using(crate::proofs::SortItemLemmas::kept_key), unfolding(iref_grammar::specs::PathKey::path_key))]
     pub(crate) fn of_path(path: &'a str, kept: bool) -> (bool, Self)
         requires { kept ≡ true → bytes.is_kept path.now ≡ true }
         ensures absolute { result.0 ≡ (read_path path.now).absolute }

@@ -3,7 +3,7 @@
 
 ghost use Rattle.std.specs.{BTreeMap.Range.{IsLeBy}, Prelude.{◌≡◌, ◌++◌, IfOk, OnErr, OnOk}};
 ghost use Rattle.iref_grammar.specs.{ComponentTexts.{spell_components}, Keys.{text_order}, Reference.{read_reference}};
-ghost use Rattle.iref_model.specs.Key.{key};
+ghost use Rattle.iref_grammar.specs.Key.{key};
 ghost use Rattle.iref_parse.specs.ReferenceSlices.{texts_of, value_of};
 ghost use Rattle.iref_canonical.specs.SortPrefix.{sort_prefix, sort_prefix_end};
 ghost use Rattle.iref_canonical.specs.SortedReferences.{IsSorted, sorted_key};

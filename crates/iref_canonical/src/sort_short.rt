@@ -5,7 +5,7 @@ ghost use Rattle.std.specs.{Prelude.{option_map, true}, Option.{option_copied}, 
 ghost use Rattle.iref_grammar.specs.{Authority.{read_authority}, ComponentTexts.{spell_components}};
 ghost use Rattle.iref_grammar.specs.{PathValue.{read_path, segments_of}, Tests.{none_or}};
 ghost use Rattle.iref_grammar.specs.Reference.{read_reference};
-ghost use Rattle.iref_model.specs.Key.{key};
+ghost use Rattle.iref_grammar.specs.Key.{key};
 ghost use Rattle.iref_parse.specs.{Dots.{has_dot_segment}, ReferenceSlices.{texts_of, value_of}};
 ghost use Rattle.iref_canonical.specs.{Padded.{BeginsWith, IsPadded, text_in}, SortBytes.{is_kept, are_kept_parts}};
 ghost use Rattle.iref_canonical.specs.{SortKey.{sort_authority, sort_item, sort_key, sort_list}};

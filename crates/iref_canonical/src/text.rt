@@ -2,7 +2,7 @@
 ghost use Rattle.std.specs.Prelude.{◌≡◌, true, bytes_eq, fold, not, IfOk, IsOk, OnErr, OnOk};
 ghost use Rattle.std.specs.{Prelude.{if◌then◌else◌}, String.{string_bytes}};
 ghost use Rattle.iref_grammar.specs.Reference.{IsReadable, is_reference, read_reference};
-ghost use Rattle.iref_model.specs.Key.{key};
+ghost use Rattle.iref_grammar.specs.Key.{key};
 ghost use Rattle.iref_parse.specs.ReferenceSlices.{value_of};
 ghost use Rattle.iref_canonical.specs.{Canonical.{canonical_text}, Hashed.{fed_reference}};
 

@@ -10,7 +10,7 @@ use Rattle.iref_grammar.specs.Authority.{AuthorityValue, spell_authority, read_a
 use Rattle.iref_grammar.proofs.AuthorityLemmas.{read_authority-spelled}
 use Rattle.iref_grammar.proofs.AuthorityRuleLemmas.{authority_read, Decides-has_authority_parts}
 use Rattle.iref_grammar.proofs.SliceLemmas.{mark_boundary}
-use Rattle.iref_model.specs.AuthoritySteps.{with_user_info, with_host, with_port}
+use Rattle.iref_grammar.specs.AuthoritySteps.{with_user_info, with_host, with_port}
 use Rattle.iref_component.specs.AuthorityTexts.{SpellsAuthority, IsRangeOf, authority_is_text}
 use Rattle.iref_splice.proofs.PartLemmas.{first_len}
 use Rattle.iref_component.proofs.PathEditLemmas.{slice_all, splice_all}

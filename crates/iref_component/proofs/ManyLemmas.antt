@@ -7,9 +7,9 @@ use Rattle.std.specs.{List.{splice, slice_range}, Iterator.{Drains, YieldsFirstB
 use Rattle.iref_grammar.specs.{declared.context.PathContext.{PathContext}, Rules.{Text}}
 use Rattle.iref_grammar.specs.{PathValue.{PathValue, read_path}, Contexts.{alone}}
 use Rattle.iref_grammar.proofs.PathLemmas.{read_path-reads}
-use Rattle.iref_model.specs.NormalList.{is_name, ends_in_dots}
-use Rattle.iref_model.specs.PathSteps.{lazy_pushed, lazy_appended, followed, pushed, closed_path, appended, joined, from_segments}
-use Rattle.iref_model.proofs.ItemLemmas.{ends-last}
+use Rattle.iref_grammar.specs.NormalList.{is_name, ends_in_dots}
+use Rattle.iref_grammar.specs.PathSteps.{lazy_pushed, lazy_appended, followed, pushed, closed_path, appended, joined, from_segments}
+use Rattle.iref_grammar.proofs.ItemLemmas.{ends-last}
 use Rattle.iref_component.specs.declared.path_mut.PathMut.{PathMut}
 use Rattle.iref_component.specs.PathEdits.{edited_bytes, path_mut_context, path_mut_text, path_mut_value, IsEditorOf, BecomesPath, IsUnchanged}
 use Rattle.iref_component.proofs.PathEditLemmas.{slice_all}

@@ -6,8 +6,8 @@ use Rattle.iref_grammar.specs.{declared.context.PathContext.{PathContext}, Rules
 use Rattle.iref_grammar.specs.{Characters.{AreAboveAscii, CharTests}, Contexts.{is_path_in}, Tests.{is_path}}
 use Rattle.iref_grammar.specs.PathValue.{PathValue, read_path, spell_path}
 use Rattle.iref_grammar.proofs.{TextLemmas.{first_of_both}, PathLemmas.{read_path-reads}}
-use Rattle.iref_model.specs.{DotSegments.{RemovesDotSegments}, PathSteps.{normalized}}
-use Rattle.iref_model.proofs.RewritingLemmas.{path_removes_dot_segments}
+use Rattle.iref_grammar.specs.{DotSegments.{RemovesDotSegments}, PathSteps.{normalized}}
+use Rattle.iref_grammar.proofs.RewritingLemmas.{path_removes_dot_segments}
 use Rattle.iref_path.specs.{Rewriting.{rewritten}, PathParts.{is_path_after, StepsTo}}
 use Rattle.iref_path.proofs.SpellLemmas.{normalized-in_context}
 

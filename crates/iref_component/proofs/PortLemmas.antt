@@ -5,7 +5,7 @@ use Rattle.std.specs.Str.Parse.{ParsesUnsigned}
 use Rattle.iref_grammar.specs.{Rules.{Text}, Tests.{is_port}}
 use Rattle.iref_component.specs.Ports.{port_number}
 use Rattle.iref_fault.specs.{declared.port.PortError.{PortError}, declared.port.PortError.TheVariants.{OutOfRange}}
-use Rattle.iref_model.proofs.PortNumberLemmas.{digits_of_ports, value_of_digits}
+use Rattle.iref_grammar.proofs.PortNumberLemmas.{digits_of_ports, value_of_digits}
 
 -- the number that is read of digits
 pub port_number-parsed : {E : Type 0} (text : Text) (r : Result ℕ E) (s : Result ℕ PortError) → ParsesUnsigned 128 10 text r → is_port text ≡ true → 0 < length text → MatchResult r (λ n. s ≡ Ok n) (λ e. IsErrAnd s (λ error. error ≡ OutOfRange)) → s ≡ port_number (2 ^ 128) text

@@ -3,7 +3,7 @@ use Rattle.std.specs.Prelude.{Bool, false, true, List, Option, Result, ◌≡◌
 use Rattle.std.specs.{Borrow.{Bor}, Iterator.{YieldsThen, Drains}, List.{All}}
 use Rattle.iref_grammar.specs.{declared.context.PathContext.{PathContext}, Characters.{CharTests}, Grammar.{IsSegment}}
 use Rattle.iref_grammar.specs.{PathValue.{PathValue}, Rules.{Text, InUtf8}}
-use Rattle.iref_model.specs.{NormalList.{ends_in_dots}, PathSteps.{appended, followed, lazy_appended}}
+use Rattle.iref_grammar.specs.{NormalList.{ends_in_dots}, PathSteps.{appended, followed, lazy_appended}}
 use Rattle.iref_component.specs.{declared.rule_text.RuleText.{RuleText}, Components.{text_of}, PathEdits.{PathStep}}
 use Rattle.iref_fault.specs.{Tried.{InvalidIfOutside}, declared.edit.TryError.{TryError}}
 use Rattle.iref_fault.specs.declared.edit.TryError.TheVariants.{Memory}

@@ -1,7 +1,7 @@
 -- What the parts of an authority are, and what they are compared by.
 use Rattle.std.specs.Prelude.{option_map}
 use Rattle.iref_grammar.specs.Authority.{AuthorityValue}
-use Rattle.iref_model.specs.AuthorityKey.{authority_key}
+use Rattle.iref_grammar.specs.AuthorityKey.{authority_key}
 use Rattle.iref_component.specs.{Components.{text_of}, declared.authority_parts.AuthorityParts.{AuthorityParts}}
 
 abbrev pub parts_value : {C : _} {c : _} → AuthorityParts C c → AuthorityValue

@@ -4,9 +4,9 @@ use Rattle.std.specs.{Cmp.Lexicographic.{nat_list_cmp_total}, Hash.{HashWrites},
 use Rattle.std.specs.{Ordering.{is_eq}, declared.cmp.Ordering.{Ordering}}
 use Rattle.iref_grammar.specs.{Authority.{AuthorityValue, read_authority}, Keys.{text_order}}
 use Rattle.iref_grammar.specs.{PathValue.{PathValue, read_path}, Rules.{Text}}
-use Rattle.iref_model.specs.AuthorityKey.{authority_key, authority_key_cmp, authority_keys_total}
-use Rattle.iref_model.specs.PathKey.{path_key, path_key_cmp, path_keys_total}
-use Rattle.iref_model.proofs.KeyOrderLemmas.{authority_keys_separate, path_keys_separate, texts_separate}
+use Rattle.iref_grammar.specs.AuthorityKey.{authority_key, authority_key_cmp, authority_keys_total}
+use Rattle.iref_grammar.specs.PathKey.{path_key, path_key_cmp, path_keys_total}
+use Rattle.iref_grammar.proofs.KeyOrderLemmas.{authority_keys_separate, path_keys_separate, texts_separate}
 use Rattle.iref_splice.specs.Fed.{IsSelfDelimiting}
 use Rattle.iref_canonical.specs.{Hashed.{fed_lone_path, IsPathKey}, HashedParts.{fed_authority, fed_part, IsAny}}
 use Rattle.iref_canonical.proofs.{HashedLemmas.{path-delimits}, HashedPartLemmas.{authority-delimits, part-delimits}}

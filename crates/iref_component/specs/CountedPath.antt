@@ -1,7 +1,7 @@
 -- The count of the segments that comparisons of paths read.
 use Rattle.std.specs.Prelude.{ℕ, ◌+◌, ◌-◌, ◌<◌, ◌^◌}
 use Rattle.iref_grammar.specs.PathValue.{PathValue}
-use Rattle.iref_model.specs.PathFunctions.{segment_count}
+use Rattle.iref_grammar.specs.PathFunctions.{segment_count}
 use Rattle.iref_component.specs.declared.path_equality.Steps.{Steps}
 
 -- how many segments have been read

@@ -12,18 +12,18 @@ pub use Rattle.iref_grammar.specs.Reference.{context_of, hierarchy, is_uri, is_r
 pub use Rattle.iref_grammar.specs.Rules.{AcceptsExactly, InUtf8, Text}
 pub use Rattle.iref_grammar.specs.Tests.{is_fragment, is_host, is_ip_literal, is_ipv4, is_path, is_pct_str, is_port, is_query, is_scheme, is_segment, is_user_info, none_or}
 pub use Rattle.iref_grammar.specs.Texts.{before, is_empty, part_then, then_part}
-pub use Rattle.iref_model.specs.AuthorityKey.{authority_key, authority_key_cmp, authority_keys_total}
-pub use Rattle.iref_model.specs.ComponentSteps.{with_authority, with_fragment, with_path, with_query, with_scheme}
-pub use Rattle.iref_model.specs.CountedEquality.{IsCountedAnswer}
-pub use Rattle.iref_model.specs.Guard.{guarded}
-pub use Rattle.iref_model.specs.HostNumbers.{groups_of, groups_text, ipv4_text, ipv6_host_text, ipv6_text, literal_value, longest_run, run_start}
-pub use Rattle.iref_model.specs.Key.{key, key_cmp}
-pub use Rattle.iref_model.specs.NormalList.{normal_segments}
-pub use Rattle.iref_model.specs.PathFunctions.{directory_text, segment_count}
-pub use Rattle.iref_model.specs.PathKey.{path_key, path_key_cmp, path_keys_total}
-pub use Rattle.iref_model.specs.PortNumbers.{port_text}
-pub use Rattle.iref_model.specs.ReferenceParts.{base_of, host_of, port_of, user_info_of}
-pub use Rattle.iref_model.specs.PathSuffix.{path_suffix}
+pub use Rattle.iref_grammar.specs.AuthorityKey.{authority_key, authority_key_cmp, authority_keys_total}
+pub use Rattle.iref_grammar.specs.ComponentSteps.{with_authority, with_fragment, with_path, with_query, with_scheme}
+pub use Rattle.iref_grammar.specs.CountedEquality.{IsCountedAnswer}
+pub use Rattle.iref_grammar.specs.Guard.{guarded}
+pub use Rattle.iref_grammar.specs.HostNumbers.{groups_of, groups_text, ipv4_text, ipv6_host_text, ipv6_text, literal_value, longest_run, run_start}
+pub use Rattle.iref_grammar.specs.Key.{key, key_cmp}
+pub use Rattle.iref_grammar.specs.NormalList.{normal_segments}
+pub use Rattle.iref_grammar.specs.PathFunctions.{directory_text, segment_count}
+pub use Rattle.iref_grammar.specs.PathKey.{path_key, path_key_cmp, path_keys_total}
+pub use Rattle.iref_grammar.specs.PortNumbers.{port_text}
+pub use Rattle.iref_grammar.specs.ReferenceParts.{base_of, host_of, port_of, user_info_of}
+pub use Rattle.iref_grammar.specs.PathSuffix.{path_suffix}
 pub use Rattle.iref_path.specs.Pieces.{pieces_if_some}
 pub use Rattle.iref_path.specs.NormalItems.{IsSound, normal_left}
 pub use Rattle.iref_canonical.specs.Hashed.{fed_lone_path, fed_reference}

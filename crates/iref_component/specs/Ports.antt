@@ -2,7 +2,7 @@
 use Rattle.std.specs.Prelude.{ℕ, nat_lt, ℤ, pos, Option, None, Some, Result, Ok, Err, if◌then◌else◌}
 use Rattle.std.specs.Result.{result_map_both}
 use Rattle.iref_grammar.specs.Rules.{Text}
-use Rattle.iref_model.specs.PortNumbers.{port_value}
+use Rattle.iref_grammar.specs.PortNumbers.{port_value}
 use Rattle.iref_fault.specs.declared.port.PortError.{PortError}
 use Rattle.iref_fault.specs.declared.port.PortError.TheVariants.{Empty, OutOfRange}
 

@@ -1,8 +1,8 @@
 //! Authorities, borrowed and owned, and edits of the owned ones (RFC 3986 section 3.2).
 ghost use Rattle.std.specs.{Prelude.{◌≡◌, option_map, OnOk, OnErr, IsOk, IsNone, length}, Option.{option_copied}};
 ghost use Rattle.iref_grammar.specs.{read_authority, IsAuthority, IsHost, IsPort, IsUserInfo};
-ghost use Rattle.iref_model.specs.{authority_key, authority_key_cmp, port_text, AuthoritySteps.{with_user_info}};
-ghost use Rattle.iref_model.specs.AuthoritySteps.{with_host, with_port};
+ghost use Rattle.iref_grammar.specs.{authority_key, authority_key_cmp, port_text, AuthoritySteps.{with_user_info}};
+ghost use Rattle.iref_grammar.specs.AuthoritySteps.{with_host, with_port};
 ghost use Rattle.iref_canonical.specs.HashedParts.{IsAny, fed_authority};
 ghost use Rattle.iref_component.specs.{AuthorityParts.{parts_value}, Comparisons.{ComparesBy}, Components.{text_of}};
 ghost use Rattle.iref_component.specs.{Authorities.{EditsOwner}, AuthorityTexts.{IsWhole, one_whole}, Tries.{Tests}};

@@ -5,7 +5,7 @@ ghost use Rattle.std.specs.Option.{option_copied};
 ghost use Rattle.iref_grammar.specs.{AuthorityValue, IsAuthority, is_authority, read_authority, is_user_info};
 ghost use Rattle.iref_grammar.specs.{is_host, is_port, none_or, IsHost, IsPort, IsUserInfo, Grammar.{at_sign, colon}};
 ghost use Rattle.iref_grammar.specs.Texts.{part_then, then_part};
-ghost use Rattle.iref_model.specs.{port_text, AuthoritySteps.{with_user_info, with_host, with_port}};
+ghost use Rattle.iref_grammar.specs.{port_text, AuthoritySteps.{with_user_info, with_host, with_port}};
 ghost use Rattle.iref_splice.specs.Changes.{IsWithin, replaced};
 ghost use Rattle.iref_component.specs.{AuthorityTexts.{SpellsAuthority, IsRangeOf, authority_is_text}};
 ghost use Rattle.iref_component.specs.{Components.{text_of}, Makers.{ParsesUtf8}, Tries.{Tests, TestsIfSome}};
@@ -233,7 +233,7 @@ impl<'a, C: CharSet, T: Target<AuthorityPart, C>> AuthorityMut<'a, C, T> {
     /// Sets the port to a number, in decimal digits without leading zeros, or removes it, which
     /// takes no memory: `h` with 80 becomes `h:80`. Out of memory, it returns `Memory` and changes
     /// nothing.
-    #[tactic(auto, using(iref_model::proofs::PortNumberLemmas::written))]
+    #[tactic(auto, using(iref_grammar::proofs::PortNumberLemmas::written))]
     pub fn set_port_u32(&mut self, port: Option<u32>) -> Result<(), Memory>
         ensures edit { Edits (with_port (option_map port_text port)) self.old self.new result }
         ensures none { IsNone port → IsOk result }

@@ -1,7 +1,7 @@
 //! The parts of an authority (RFC 3986 section 3.2).
 ghost use Rattle.std.specs.Prelude.{◌≡◌, true, ⊤};
 ghost use Rattle.iref_grammar.specs.{is_authority, read_authority};
-ghost use Rattle.iref_model.specs.{authority_key_cmp};
+ghost use Rattle.iref_grammar.specs.{authority_key_cmp};
 ghost use Rattle.iref_canonical.specs.HashedParts.{IsAny, fed_authority};
 ghost use Rattle.iref_component.specs.{AuthorityParts.{parts_key, parts_value}, Comparisons.{ComparesBy}};
 

@@ -13,7 +13,7 @@ ghost use Rattle.iref_grammar.proofs.PartRuleLemmas.{Decides-is_port_bytes, Deci
 ghost use Rattle.iref_grammar.proofs.{PathTextLemmas.{Decides-is_path}, PctLemmas.{Decides-is_pct_str}};
 ghost use Rattle.iref_grammar.proofs.PctLemmas.{fragment_is_pct_str, host_is_pct_str, query_is_pct_str};
 ghost use Rattle.iref_grammar.proofs.PctLemmas.{segment_is_pct_str, user_info_is_pct_str};
-ghost use Rattle.iref_model.proofs.PathGrammarLemmas.{is_path_empty};
+ghost use Rattle.iref_grammar.proofs.PathGrammarLemmas.{is_path_empty};
 
 use crate::key::{DecodedBytes, Key, LowerCase, PartsKey, PathKey, SameText};
 use crate::rule::{AllowsEmpty, Escaped, Refuses, Rule};

@@ -2,8 +2,8 @@
 ghost use Rattle.std.specs.{Prelude.{◌≡◌, Some, IfOk, is_some, ◌+◌, ◌≤◌, ◌++◌, ◌==◌, length}, List.{prefix_len}};
 ghost use Rattle.std.specs.String.{string_bytes};
 ghost use Rattle.iref_grammar.specs.{is_ip_literal, is_ipv4, ipv4_value};
-ghost use Rattle.iref_model.specs.{ipv4_text, ipv6_host_text, literal_value, groups_of, groups_text, longest_run};
-ghost use Rattle.iref_model.specs.{run_start, ipv6_text};
+ghost use Rattle.iref_grammar.specs.{ipv4_text, ipv6_host_text, literal_value, groups_of, groups_text, longest_run};
+ghost use Rattle.iref_grammar.specs.{run_start, ipv6_text};
 ghost use Rattle.iref_component.specs.Components.{text_of};
 
 use crate::component_rules::HostRule;
@@ -129,7 +129,7 @@ impl<S: Storage, C: CharSet> RuleText<S, HostRule, C> {
 impl<C: CharSet> HostBuf<C> {
     /// The host of the IPv4 address with this number, its first octet highest: of 258, `0.0.1.2`.
     /// Out of memory, it returns `Memory`.
-    #[tactic(auto, using(iref_model::proofs::HostNumberLemmas::written))]
+    #[tactic(auto, using(iref_grammar::proofs::HostNumberLemmas::written))]
     pub fn from_ipv4(alloc: Global, number: u32) -> Result<Self, Memory>
         ensures text { IfOk result (λ host. text_of host ≡ ipv4_text number) }
         ensures read_back { IfOk result (λ host. ipv4_value (text_of host) ≡ Some number) }
@@ -146,7 +146,7 @@ impl<C: CharSet> HostBuf<C> {
 
     /// The host of the IPv6 address with this number, its first group highest, in brackets and in
     /// the form of RFC 5952 section 4: of 65,538, `[::1:2]`. Out of memory, it returns `Memory`.
-    #[tactic(auto, using(iref_model::proofs::Ipv6TextLemmas::written))]
+    #[tactic(auto, using(iref_grammar::proofs::Ipv6TextLemmas::written))]
     pub fn from_ipv6(alloc: Global, number: u128) -> Result<Self, Memory>
         ensures text { IfOk result (λ host. text_of host ≡ ipv6_host_text number) }
         ensures read_back { IfOk result (λ host. literal_value (text_of host) ≡ Some number) }

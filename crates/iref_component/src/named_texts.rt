@@ -184,7 +184,7 @@ impl Port<'static> {
     }
 }
 
-#[tactic(auto, using(iref_model::proofs::PathGrammarLemmas::short_segments))]
+#[tactic(auto, using(iref_grammar::proofs::PathGrammarLemmas::short_segments))]
 impl<C: CharSet> Segment<'_, C> {
     /// The segment `.`.
     pub fn current() -> Self

@@ -4,7 +4,7 @@ ghost use Rattle.std.specs.{Prelude.{◌≡◌, true, length, Some, IfSome}, Lis
 ghost use Rattle.std.specs.Iterator.{YieldsFirstBy, YieldsLastBy, item_count, UpTo};
 ghost use Rattle.std.specs.Iterator.SizeHint.{IsWithinCount};
 ghost use Rattle.iref_grammar.specs.{is_path, is_segment, read_path};
-ghost use Rattle.iref_model.specs.{normal_segments};
+ghost use Rattle.iref_grammar.specs.{normal_segments};
 ghost use Rattle.iref_component.specs.{Components.{text_of}, NormalLeft.{IsLeft, left_of}};
 
 mod left;

@@ -3,12 +3,12 @@ ghost use Rattle.std.specs.Prelude.{◌≡◌, ◌<◌, ◌^◌, ◌++◌, not, 
 ghost use Rattle.std.specs.Prelude.{option_map};
 ghost use Rattle.iref_grammar.specs.{alone, is_empty, spell_path};
 ghost use Rattle.iref_canonical.specs.Hashed.{IsPathKey, fed_lone_path};
-ghost use Rattle.iref_model.specs.{normal_segments, path_key, path_key_cmp, PathSuffix.{path_suffix}};
+ghost use Rattle.iref_grammar.specs.{normal_segments, path_key, path_key_cmp, PathSuffix.{path_suffix}};
 ghost use Rattle.iref_component.specs.{Comparisons.{ComparesBy}, Components.{text_of}};
 ghost use Rattle.iref_component.specs.{NormalPaths.{normal_segments_left}, Paths.{path_value, segments_left}};
 ghost use Rattle.iref_component.specs.Suffixes.{SpellsSuffix};
-ghost use Rattle.iref_model.specs.PathFunctions as function;
-ghost use Rattle.iref_model.specs.PathSteps as step;
+ghost use Rattle.iref_grammar.specs.PathFunctions as function;
+ghost use Rattle.iref_grammar.specs.PathSteps as step;
 
 use crate::borrowed::BorrowedText;
 use crate::component_rules::PathRule;
@@ -121,7 +121,7 @@ impl<'a, C: CharSet> Path<'a, C> {
     }
 
     /// The absolute path without segments: `/`.
-    #[tactic(auto, using(iref_model::proofs::PathGrammarLemmas::empty_paths))]
+    #[tactic(auto, using(iref_grammar::proofs::PathGrammarLemmas::empty_paths))]
     pub fn empty_absolute() -> Self
         ensures { text_of result ≡ codes "/" }
     {
@@ -175,7 +175,7 @@ impl<'a, C: CharSet> Path<'a, C> {
     }
 
     /// The last segment unless it is empty: of `/a/b`, `b`; of `a/`, None.
-    #[tactic(auto, unfolding(iref_model::specs::PathFunctions::file_name))]
+    #[tactic(auto, unfolding(iref_grammar::specs::PathFunctions::file_name))]
     pub fn file_name(&self) -> Option<Segment<'a, C>>
         ensures { option_map text_of result ≡ function.file_name (path_value self.now) }
     {
@@ -203,7 +203,7 @@ impl<'a, C: CharSet> Path<'a, C> {
 
     /// The parent, or else the empty path that is absolute where this one is: of `/a/b`, `/a`; of
     /// `a`, the empty path; of `/`, `/`.
-    #[tactic(auto, unfolding(iref_model::specs::PathFunctions::parent_or_empty))]
+    #[tactic(auto, unfolding(iref_grammar::specs::PathFunctions::parent_or_empty))]
     pub fn parent_or_empty(&self) -> Self
         ensures { path_value result ≡ function.parent_or_empty (path_value self.now) }
     {

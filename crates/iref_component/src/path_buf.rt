@@ -1,15 +1,15 @@
 //! Paths that own their text, and their edits (RFC 3986 sections 3.3 and 5.2.4).
 ghost use Rattle.std.specs.Prelude.{◌≡◌, ◌<◌, ◌^◌, length, option_map, ◌&&◌, ◌≤◌, not, IfOk, IsOk, map};
 ghost use Rattle.std.specs.Iterator.{IsFiniteIterable};
-ghost use Rattle.iref_model.specs.{normal_segments};
+ghost use Rattle.iref_grammar.specs.{normal_segments};
 ghost use Rattle.iref_component.specs.{Components.{text_of}, NormalPaths.{normal_segments_left}, Paths.{path_value}};
 ghost use Rattle.iref_component.specs.{Paths.{segments_left}, PathEdits.{Borrows, EditsOwner, IsEditorOf, SpellsPath}};
 ghost use Rattle.iref_component.specs.{PathEdits.{OwnerBecomes}, WholePaths.{IsWholePath, one_whole_path}};
 ghost use Rattle.iref_component.specs.{Appends.{Appends, TakesAll, following, lazily, TriesAppends}, Tries.{Tests}};
 ghost use Rattle.iref_grammar.specs.{alone, is_empty, spell_path, IsPath, IsSegment, read_path};
 ghost use Rattle.iref_splice.proofs.PartLemmas.{whole_is_within};
-ghost use Rattle.iref_model.specs.PathFunctions as function;
-ghost use Rattle.iref_model.specs.PathSteps as step;
+ghost use Rattle.iref_grammar.specs.PathFunctions as function;
+ghost use Rattle.iref_grammar.specs.PathSteps as step;
 
 use crate::component_rules::PathRule;
 use crate::named_texts::Segment;

@@ -1,6 +1,6 @@
 //! Equality of paths with a count of the segments read.
 ghost use Rattle.std.specs.Prelude.{◌≡◌, ◌≢◌, ◌↔◌, ◌+◌, ◌<◌, ◌≤◌, ◌^◌, true};
-ghost use Rattle.iref_model.specs.{IsCountedAnswer, path_key, segment_count};
+ghost use Rattle.iref_grammar.specs.{IsCountedAnswer, path_key, segment_count};
 ghost use Rattle.iref_component.specs.{Paths.{path_value}, CountedPath.{HasRoomFor, steps_count, steps_taken}};
 
 use crate::path::Path;
@@ -42,7 +42,7 @@ pub fn new_steps_have_room<C: CharSet>(a: Path<'_, C>, b: Path<'_, C>)
 /// of them once and from the back, and by none where one path is absolute and the other is not.
 ///
 /// A new count has room for any two paths, as `new_steps_have_room` says.
-#[tactic(auto, using(iref_model::proofs::CountedLemmas::decided))]
+#[tactic(auto, using(iref_grammar::proofs::CountedLemmas::decided))]
 pub fn path_eq_counted<C: CharSet>(a: Path<'_, C>, b: Path<'_, C>, steps: &mut Steps) -> bool
     requires { HasRoomFor steps.old (path_value a) (path_value b) }
     ensures equal { (result ≡ true)

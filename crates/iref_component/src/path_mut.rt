@@ -7,8 +7,8 @@ ghost use Rattle.iref_splice.specs.Changes.{IsNoLonger, IsWithin, changed};
 ghost use Rattle.iref_path.specs.PathParts.{is_path_after, StepsTo};
 ghost use Rattle.iref_component.specs.{Components.{text_of}, Paths.{path_value}, BytePaths.{MayFollow}};
 ghost use Rattle.iref_component.specs.{Makers.{ParsesUtf8}, Rows.{bytes_row}, Tries.{Tests}};
-ghost use Rattle.iref_model.specs.{spell_path, RemovesDotSegments};
-ghost use Rattle.iref_model.specs.PathSteps as step;
+ghost use Rattle.iref_grammar.specs.{spell_path, RemovesDotSegments};
+ghost use Rattle.iref_grammar.specs.PathSteps as step;
 
 use crate::component_rules::{PathRule, SegmentRule};
 use crate::named_texts::Segment;

@@ -1,7 +1,7 @@
 //! The numbers of ports (RFC 3986 section 3.2.3).
 ghost use Rattle.std.specs.{Prelude.{◌≡◌, ◌^◌, IfOk}, Result.{result_ok}};
 ghost use Rattle.iref_grammar.specs.{is_empty};
-ghost use Rattle.iref_model.specs.PortNumbers.{port_text};
+ghost use Rattle.iref_grammar.specs.PortNumbers.{port_text};
 ghost use Rattle.iref_component.specs.{Components.{text_of}, Ports.{port_number, signed_port_number}};
 
 use crate::component_rules::PortRule;
@@ -231,7 +231,7 @@ impl PortBuf {
 
     /// The port of this number, in decimal digits without leading zeros: of 80, `80`. Out of
     /// memory, it returns `Memory`.
-    #[tactic(auto, using(iref_model::proofs::PortNumberLemmas::written))]
+    #[tactic(auto, using(iref_grammar::proofs::PortNumberLemmas::written))]
     pub fn from_u128(alloc: Global, number: u128) -> Result<Self, Memory>
         ensures { IfOk result (λ port. text_of port ≡ port_text number) }
     {

@@ -1,7 +1,7 @@
 //! Segments (RFC 3986 section 3.3).
 ghost use Rattle.std.specs.Prelude.{◌≡◌};
 ghost use Rattle.iref_component.specs.Components.{text_of};
-ghost use Rattle.iref_model.specs.PathFunctions as function;
+ghost use Rattle.iref_grammar.specs.PathFunctions as function;
 
 use crate::component_rules::SegmentRule;
 use crate::rule_text::{RuleText, Storage};

@@ -3,12 +3,12 @@ use Rattle.std.proofs.Common.{◌≡◌, ℕ, zero, suc, ◌+◌, ◌≤◌, Boo
 use Rattle.std.proofs.{lemmas.Grind.{common_steps}, lemmas.Bool.Decides.{nat_tests}, lemmas.List.{append-nil}}
 use Rattle.std.specs.List.{list_all}
 use Rattle.iref_grammar.specs.{Rules.{Text}, Texts.{is_empty}, PathValue.{is_one_empty}}
-use Rattle.iref_model.specs.NormalList.{count_parents, is_dot_dot, kept_segments}
-use Rattle.iref_model.specs.{NormalReading.{leading_parents, open_before, staying_before}, Relative.{last_or_empty}}
-use Rattle.iref_model.specs.Relativized.{is_climb}
-use Rattle.iref_model.proofs.{DirectoryLemmas.{all_but_last-snoc}, FitsLemmas.{is_empty-snoc}}
-use Rattle.iref_model.proofs.{ItemLemmas.{name_no_parent}, JoinedLemmas.{are_names, parents-names}}
-use Rattle.iref_model.proofs.{NormalLemmas.{excess-is}, StayingLemmas.{open_parents-is, staying_names-is}}
+use Rattle.iref_grammar.specs.NormalList.{count_parents, is_dot_dot, kept_segments}
+use Rattle.iref_grammar.specs.{NormalReading.{leading_parents, open_before, staying_before}, Relative.{last_or_empty}}
+use Rattle.iref_grammar.specs.Relativized.{is_climb}
+use Rattle.iref_grammar.proofs.{DirectoryLemmas.{all_but_last-snoc}, FitsLemmas.{is_empty-snoc}}
+use Rattle.iref_grammar.proofs.{ItemLemmas.{name_no_parent}, JoinedLemmas.{are_names, parents-names}}
+use Rattle.iref_grammar.proofs.{NormalLemmas.{excess-is}, StayingLemmas.{open_parents-is, staying_names-is}}
 use Rattle.iref_path.specs.{ShortestPaths.{are_some_parents}, Spelling.{each_closed}, StepsBetween.{last_ones}}
 use Rattle.iref_path.proofs.NormalItemsLemmas.{all_last, length-last, parts_left, unread-sound}
 use Rattle.iref_path.proofs.SpellLemmas.{kept_size, list_size}

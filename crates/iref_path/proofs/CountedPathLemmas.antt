@@ -2,8 +2,8 @@
 use Rattle.std.proofs.Common.{◌≡◌, ℕ, ◌+◌, ◌-◌, ◌≤◌, Bool, true, false, length, refl, ap, arith}
 use Rattle.std.proofs.{lemmas.List.{length-reverse}, lemmas.Bool.{not-false, not-true}}
 use Rattle.iref_grammar.specs.PathValue.{PathValue}
-use Rattle.iref_model.specs.CountedEquality.{Comparison, IsCountedAnswer, items_compared}
-use Rattle.iref_model.proofs.CountedLemmas.{compared_same, flags_apart}
+use Rattle.iref_grammar.specs.CountedEquality.{Comparison, IsCountedAnswer, items_compared}
+use Rattle.iref_grammar.proofs.CountedLemmas.{compared_same, flags_apart}
 use Rattle.iref_path.specs.declared.counted.CountedPath.{CountedPath}
 use Rattle.iref_path.specs.CountedPath.{IsAnswer, IsWhole, all_items_unread, both_counted, path_unread, segments_of}
 use Rattle.iref_path.specs.CountedSegments.{IsCounted, unread}

@@ -5,7 +5,7 @@ use Rattle.std.specs.{Cmp.Lexicographic.{slice_cmp}, Ordering.{nat_cmp}}
 use Rattle.percent_encoding.specs.Percent.{percent_decode}
 use Rattle.percent_encoding.proofs.PercentLemmas.{percent_decode-nil, percent_decode_not_percent}
 use Rattle.iref_grammar.specs.{Grammar.{slash}, Keys.{text_order}, Rules.{Text}, Texts.{pieces_at}}
-use Rattle.iref_model.proofs.PieceLemmas.{some_piece}
+use Rattle.iref_grammar.proofs.PieceLemmas.{some_piece}
 use Rattle.iref_parse.specs.Kept.{IsKeptFront}
 use Rattle.iref_path.specs.Named.{rank}
 use Rattle.iref_path.proofs.OrderLemmas.{decoded}

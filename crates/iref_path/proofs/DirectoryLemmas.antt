@@ -4,7 +4,7 @@ use Rattle.std.proofs.{lemmas.Bool.Decides.{nat_tests}, lemmas.List.{length-take
 use Rattle.std.proofs.{lemmas.List.Sums.{common_prefix_len-le}, lemmas.Str.{IsCharBoundary-after_ascii}}
 use Rattle.std.specs.List.{common_prefix_len}
 use Rattle.iref_grammar.specs.{Grammar.{slash}, Rules.{Text}, Texts.{pieces_at}}
-use Rattle.iref_model.proofs.{PieceLemmas.{pieces-append}, DirectoryLemmas.{all_but_last-snoc}}
+use Rattle.iref_grammar.proofs.{PieceLemmas.{pieces-append}, DirectoryLemmas.{all_but_last-snoc}}
 use Rattle.iref_path.specs.{Pieces.{ShareFront}, Slashes.{IsLastSlash}}
 
 same_front : (a b : Text) (n : ℕ) → n ≤ common_prefix_len nat_eq a b → take n a ≡ take n b

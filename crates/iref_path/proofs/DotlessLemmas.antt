@@ -7,11 +7,11 @@ use Rattle.iref_grammar.specs.{declared.context.PathContext.{PathContext}, Rules
 use Rattle.iref_grammar.specs.Texts.{all_but_last, pieces_at}
 use Rattle.iref_grammar.specs.PathValue.{PathValue, is_one_empty, read_path, segments_of, spell_path}
 use Rattle.iref_grammar.proofs.TextLemmas.{join-pieces_at}
-use Rattle.iref_model.specs.NormalList.{is_name, ends_in_dots, normal_segments, staying_names, without_lone_empty}
-use Rattle.iref_model.specs.{NormalReading.{open_before, staying_before}, PathSteps.{normalized}}
-use Rattle.iref_model.specs.Relative.{directory_names, steps_between}
-use Rattle.iref_model.proofs.{ItemLemmas.{name_no_parent, normal_segments-is}, PieceLemmas.{pieces-append, some_piece}}
-use Rattle.iref_model.proofs.StayingLemmas.{staying_names-is}
+use Rattle.iref_grammar.specs.NormalList.{is_name, ends_in_dots, normal_segments, staying_names, without_lone_empty}
+use Rattle.iref_grammar.specs.{NormalReading.{open_before, staying_before}, PathSteps.{normalized}}
+use Rattle.iref_grammar.specs.Relative.{directory_names, steps_between}
+use Rattle.iref_grammar.proofs.{ItemLemmas.{name_no_parent, normal_segments-is}, PieceLemmas.{pieces-append, some_piece}}
+use Rattle.iref_grammar.proofs.StayingLemmas.{staying_names-is}
 use Rattle.iref_parse.specs.Dots.{begins_with_dot, has_dot_segment, is_some_dotted}
 use Rattle.iref_path.specs.{Bodies.{after_front}, Pieces.{pieces_if_some}, NormalItems.{first_or}}
 use Rattle.iref_path.specs.{StepsBetween.{text_steps}, Spelling.{each_closed, guard_in}}

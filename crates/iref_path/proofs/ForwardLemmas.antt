@@ -8,11 +8,11 @@ use Rattle.iref_grammar.proofs.TextLemmas.{join-pieces_at, lacks-pieces_at, piec
 use Rattle.iref_grammar.specs.{declared.context.PathContext.{PathContext}, Rules.{Text}, Grammar.{slash}}
 use Rattle.iref_grammar.specs.PathValue.{PathValue, read_path, segments_of, spell_path}
 use Rattle.iref_grammar.specs.Texts.{all_but_last, is_empty, lacks, pieces_at}
-use Rattle.iref_model.specs.{NormalList.{is_name, normal_segments}, NormalReading.{items, open_before, staying_before}}
-use Rattle.iref_model.specs.PathSteps.{normalized}
-use Rattle.iref_model.proofs.{DirectoryLemmas.{all_but_last-snoc}, ItemLemmas.{name_no_parent, normal_segments-is}}
-use Rattle.iref_model.proofs.{PieceLemmas.{some_piece}, StayingLemmas.{TakesLast, staying_before-append, takes_last}}
-use Rattle.iref_model.proofs.StepSegmentLemmas.{in-shortened}
+use Rattle.iref_grammar.specs.{NormalList.{is_name, normal_segments}, NormalReading.{items, open_before, staying_before}}
+use Rattle.iref_grammar.specs.PathSteps.{normalized}
+use Rattle.iref_grammar.proofs.{DirectoryLemmas.{all_but_last-snoc}, ItemLemmas.{name_no_parent, normal_segments-is}}
+use Rattle.iref_grammar.proofs.{PieceLemmas.{some_piece}, StayingLemmas.{TakesLast, staying_before-append, takes_last}}
+use Rattle.iref_grammar.proofs.StepSegmentLemmas.{in-shortened}
 use Rattle.iref_parse.specs.Dots.{is_slash_dot, is_some_dotted}
 use Rattle.iref_parse.proofs.DotSegmentLemmas.{later_dotless}
 use Rattle.iref_path.proofs.{DirectoryLemmas.{around_pieces}, DotlessLemmas.{dotless_name}}

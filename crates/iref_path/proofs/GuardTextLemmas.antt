@@ -3,7 +3,7 @@ use Rattle.std.proofs.Common.{arith, ◌≡◌, Bool, true, false, cond, List, [
 use Rattle.iref_grammar.specs.{declared.context.PathContext.{PathContext}, Rules.{Text}}
 use Rattle.iref_grammar.specs.{PathValue.{PathValue, spell_path, read_path}, Contexts.{fits}}
 use Rattle.iref_grammar.proofs.PathLemmas.{read_path-reads}
-use Rattle.iref_model.specs.Guard.{guarded}
+use Rattle.iref_grammar.specs.Guard.{guarded}
 use Rattle.iref_path.specs.Spelling.{guard, needs_guard}
 
 abbrev context_with : Bool → Bool → PathContext

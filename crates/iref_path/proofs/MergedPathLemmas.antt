@@ -3,9 +3,9 @@ use Rattle.std.proofs.Common.{append_assoc, ◌≡◌, ℕ, ◌+◌, ◌*◌, �
 use Rattle.std.proofs.lemmas.List.{append-nil}
 use Rattle.std.specs.{Borrow.{Bor}, Option.{option_or}}
 use Rattle.iref_grammar.specs.{Grammar.{slash}, Rules.{Text}, Texts.{all_but_last}, PathValue.{read_path}}
-use Rattle.iref_model.specs.{NormalList.{ends_in_dots}, NormalReading.{open_before, staying_before}}
-use Rattle.iref_model.proofs.{PieceLemmas.{some_piece}, SettledLemmas.{ends-append}}
-use Rattle.iref_model.proofs.StayingLemmas.{open_before-append, staying_before-append}
+use Rattle.iref_grammar.specs.{NormalList.{ends_in_dots}, NormalReading.{open_before, staying_before}}
+use Rattle.iref_grammar.proofs.{PieceLemmas.{some_piece}, SettledLemmas.{ends-append}}
+use Rattle.iref_grammar.proofs.StayingLemmas.{open_before-append, staying_before-append}
 use Rattle.iref_path.specs.{NormalItems.{first_or}, Pieces.{pieces_if_some}, Spelling.{each_closed}}
 use Rattle.iref_path.proofs.SpellLemmas.{kept_size, last_size, read_size, size-append, size-cons, size-parents, list_size}
 use Rattle.iref_path.proofs.NormalItemsLemmas.{parts_left, last-parts, length-last, length-parts, all_last, unread-sound}

@@ -6,12 +6,12 @@ use Rattle.std.proofs.lemmas.Slice.Eq.{bytes_eq-Decides}
 use Rattle.std.specs.{Cmp.Lexicographic.{slice_cmp}, List.{list_any}}
 use Rattle.iref_grammar.specs.{Grammar.{slash}, Keys.{text_order}, PathValue.{PathValue}, Rules.{Text}}
 use Rattle.iref_grammar.specs.Texts.{is_empty, pieces_at}
-use Rattle.iref_model.specs.NormalList.{ends_in_dots, is_dot, is_dot_dot, normal_segments, without_lone_empty}
-use Rattle.iref_model.specs.NormalReading.{closing, leading_parents, open_before, staying_before}
+use Rattle.iref_grammar.specs.NormalList.{ends_in_dots, is_dot, is_dot_dot, normal_segments, without_lone_empty}
+use Rattle.iref_grammar.specs.NormalReading.{closing, leading_parents, open_before, staying_before}
 use Rattle.percent_encoding.specs.Percent.{percent_decode}
 use Rattle.percent_encoding.proofs.PercentLemmas.{length-percent_decode, percent_decode-nil}
-use Rattle.iref_model.proofs.StayingLemmas.{open_before-append, staying_before-append}
-use Rattle.iref_model.proofs.{ItemLemmas.{normal_segments-is}, PieceLemmas.{some_piece}, SettledLemmas.{ends-append}}
+use Rattle.iref_grammar.proofs.StayingLemmas.{open_before-append, staying_before-append}
+use Rattle.iref_grammar.proofs.{ItemLemmas.{normal_segments-is}, PieceLemmas.{some_piece}, SettledLemmas.{ends-append}}
 use Rattle.iref_parse.specs.Dots.{begins_with, has_dot_pair, is_some_dotted}
 use Rattle.iref_path.specs.{Named.{named}, Pieces.{ShareFront}}
 use Rattle.iref_path.proofs.{DotlessLemmas.{dotless_name}, FrontOrderLemmas.{same_order}}

@@ -7,10 +7,10 @@ use Rattle.std.proofs.lemmas.List.Folds.{list_any-append}
 use Rattle.std.specs.{List.{list_any}, Borrow.{Bor}}
 use Rattle.iref_path.proofs.NamedLemmas.{none_open}
 use Rattle.iref_grammar.specs.{Rules.{Text}, Texts.{is_empty}, PathValue.{PathValue, is_one_empty}}
-use Rattle.iref_model.specs.NormalList.{is_dot_dot, is_name, ends_in_dots, without_lone_empty, normal_segments}
-use Rattle.iref_model.specs.NormalReading.{open_before, staying_before, closing}
-use Rattle.iref_model.proofs.ItemLemmas.{normal_segments-is, ends-last}
-use Rattle.iref_model.proofs.StayingLemmas.{open_before-append, staying_before-append}
+use Rattle.iref_grammar.specs.NormalList.{is_dot_dot, is_name, ends_in_dots, without_lone_empty, normal_segments}
+use Rattle.iref_grammar.specs.NormalReading.{open_before, staying_before, closing}
+use Rattle.iref_grammar.proofs.ItemLemmas.{normal_segments-is, ends-last}
+use Rattle.iref_grammar.proofs.StayingLemmas.{open_before-append, staying_before-append}
 use Rattle.iref_path.specs.MergedPaths.{both_names, merged_list}
 use Rattle.iref_path.specs.NormalItems.{first_or, IsEnd, IsPlain, IsSound, IsWhole, normal_left, unread_items}
 use Rattle.iref_path.specs.{declared.normal_items.NormalItems.{NormalItems}, Pieces.{pieces_if_some}}

@@ -5,7 +5,7 @@ use Rattle.std.proofs.lemmas.Grind.{common_steps}
 use Rattle.std.specs.{Ordering.{bool_cmp, is_ne, nat_cmp, ordering_then}, Cmp.Lexicographic.{slice_cmp}}
 use Rattle.iref_grammar.specs.{Keys.{text_order}, Rules.{Text}, PathValue.{PathValue}}
 use Rattle.percent_encoding.specs.Percent.{percent_decode}
-use Rattle.iref_model.specs.{NormalList.{normal_segments}, PathKey.{path_key, path_key_cmp}}
+use Rattle.iref_grammar.specs.{NormalList.{normal_segments}, PathKey.{path_key, path_key_cmp}}
 use Rattle.iref_path.specs.ItemOrders.{decoded_order}
 
 -- ---- the foremost difference decides

@@ -6,10 +6,10 @@ use Rattle.std.proofs.{lemmas.List.Sums.{suffix_len_is}, lemmas.Str.Pattern.{rfi
 use Rattle.iref_grammar.specs.{Characters.{CharTests, AreAboveAscii}, Rules.{Text}, Grammar.{slash}, Texts.{is_empty}}
 use Rattle.iref_grammar.specs.{PathValue.{PathValue, read_path}, Tests.{is_path}}
 use Rattle.iref_grammar.proofs.PathLemmas.{read_path-reads}
-use Rattle.iref_model.specs.{Guard.{guarded_list}, PathFunctions.{directory_text, parent}}
-use Rattle.iref_model.proofs.PieceLemmas.{pieces-append, some_piece}
-use Rattle.iref_model.proofs.PathGrammarLemmas.{path_parts, path_joined, is_path_empty, is_path-root, is_path-guard}
-use Rattle.iref_model.proofs.{DirectoryLemmas.{all_but_last-snoc}, FitsLemmas.{is_empty-snoc}}
+use Rattle.iref_grammar.specs.{Guard.{guarded_list}, PathFunctions.{directory_text, parent}}
+use Rattle.iref_grammar.proofs.PieceLemmas.{pieces-append, some_piece}
+use Rattle.iref_grammar.proofs.PathGrammarLemmas.{path_parts, path_joined, is_path_empty, is_path-root, is_path-guard}
+use Rattle.iref_grammar.proofs.{DirectoryLemmas.{all_but_last-snoc}, FitsLemmas.{is_empty-snoc}}
 use Rattle.iref_path.proofs.SlashLemmas.{LacksSlash, pieces-whole, lacks_if_none, cut_last}
 
 -- ---- the directory

@@ -7,9 +7,9 @@ use Rattle.iref_grammar.specs.{declared.context.PathContext.{PathContext}, Rules
 use Rattle.iref_grammar.specs.Texts.{is_empty, pieces_at}
 use Rattle.iref_grammar.specs.PathValue.{PathValue, read_path, spell_path, shows_its_list}
 use Rattle.iref_grammar.proofs.{TextLemmas.{join-pieces_at}, PathLemmas.{read_path-reads}}
-use Rattle.iref_model.specs.{Guard.{guarded, guarded_list}, NormalList.{is_dot, is_dot_dot}}
-use Rattle.iref_model.specs.PathSteps.{lazy_pushed, ends_in_parent, popped, closed_path, followed, pushed}
-use Rattle.iref_model.proofs.{DirectoryLemmas.{all_but_last-snoc}, FitsLemmas.{is_empty-snoc}, PieceLemmas.{some_piece}}
+use Rattle.iref_grammar.specs.{Guard.{guarded, guarded_list}, NormalList.{is_dot, is_dot_dot}}
+use Rattle.iref_grammar.specs.PathSteps.{lazy_pushed, ends_in_parent, popped, closed_path, followed, pushed}
+use Rattle.iref_grammar.proofs.{DirectoryLemmas.{all_but_last-snoc}, FitsLemmas.{is_empty-snoc}, PieceLemmas.{some_piece}}
 use Rattle.iref_path.specs.{Pieces.{pieces_if_some}, StepTexts.{closed_by}}
 use Rattle.iref_path.proofs.StepTextLemmas.{IsCut, cut_at_slash, join-snoc, root_text, put_to_end, same_text, to_end}
 use Rattle.iref_path.proofs.StepValueLemmas.{steps_as, steps_by, followed-step}

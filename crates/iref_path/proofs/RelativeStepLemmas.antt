@@ -4,7 +4,7 @@ use Rattle.std.proofs.{lemmas.Bool.Decides.{nat_tests}, lemmas.List.Splits.{leng
 use Rattle.std.specs.List.{common_prefix_len, join_with_byte}
 use Rattle.iref_grammar.specs.{Rules.{Text}, Grammar.{slash}, Texts.{all_but_last, pieces_at}}
 use Rattle.iref_grammar.proofs.TextLemmas.{join-pieces_at}
-use Rattle.iref_model.proofs.{LeadingLemmas.{divided_last}, PieceLemmas.{some_piece}}
+use Rattle.iref_grammar.proofs.{LeadingLemmas.{divided_last}, PieceLemmas.{some_piece}}
 use Rattle.iref_path.specs.{Bodies.{parents_then}, Spelling.{each_closed}, StepsBetween.{steps_with, text_steps_with}}
 use Rattle.iref_path.proofs.SpellLemmas.{length-joined, size-append, size-parents, length-join}
 

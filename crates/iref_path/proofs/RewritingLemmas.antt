@@ -7,10 +7,10 @@ use mir.Val.{bool_byte}
 use borrow.Rule.Slice.PartMut.{put_mid}
 use Rattle.memchr.specs.Find.{NoneAfter, Passes, is_byte}
 use Rattle.iref_grammar.specs.{Rules.{Text}, Grammar.{slash}, Texts.{pieces_at}, PathValue.{read_path, segments_of}}
-use Rattle.iref_model.specs.NormalList.{is_name, ends_in_dots, normal_segments, without_lone_empty}
-use Rattle.iref_model.specs.NormalReading.{items, open_before, staying_before, leading_parents, closing}
-use Rattle.iref_model.proofs.ItemLemmas.{ends-last, normal_segments-is}
-use Rattle.iref_model.proofs.StayingLemmas.{open_before-append, staying_before-append}
+use Rattle.iref_grammar.specs.NormalList.{is_name, ends_in_dots, normal_segments, without_lone_empty}
+use Rattle.iref_grammar.specs.NormalReading.{items, open_before, staying_before, leading_parents, closing}
+use Rattle.iref_grammar.proofs.ItemLemmas.{ends-last, normal_segments-is}
+use Rattle.iref_grammar.proofs.StayingLemmas.{open_before-append, staying_before-append}
 use Rattle.iref_path.specs.{Rewriting.{pieces_before}, Slashes.{IsLastSlash}, Spelling.{each_closed}}
 use Rattle.iref_path.proofs.SlashLemmas.{pieces-cut_last, read-absolute, read-relative, lacks_by_index, pieces-whole}
 use Rattle.iref_path.proofs.{SpellLemmas.{each_closed-append, joined_before}, WrittenLemmas.{to_end}}

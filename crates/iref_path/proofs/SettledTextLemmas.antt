@@ -4,9 +4,9 @@ use Rattle.std.proofs.lemmas.Slice.Eq.{bytes_eq-Decides}
 use Rattle.iref_grammar.specs.{declared.context.PathContext.{PathContext}, Rules.{Text}}
 use Rattle.iref_grammar.specs.{Contexts.{fits}, PathValue.{read_path, segments_of, spell_path}}
 use Rattle.iref_grammar.proofs.PathLemmas.{read_path-reads}
-use Rattle.iref_model.specs.{Guard.{guarded}, NormalList.{normal, normal_segments}, PathSteps.{normalized}}
+use Rattle.iref_grammar.specs.{Guard.{guarded}, NormalList.{normal, normal_segments}, PathSteps.{normalized}}
 use Rattle.iref_parse.specs.Dots.{has_dot_segment, is_some_dotted}
-use Rattle.iref_model.proofs.AddedLemmas.{guarded-same}
+use Rattle.iref_grammar.proofs.AddedLemmas.{guarded-same}
 use Rattle.iref_path.proofs.DotlessLemmas.{normal_segments-dotless}
 
 -- two texts, in either order

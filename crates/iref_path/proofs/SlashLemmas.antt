@@ -10,7 +10,7 @@ use Rattle.iref_grammar.specs.{Rules.{Text}, Grammar.{slash}, Texts.{before, aft
 use Rattle.iref_grammar.specs.PathValue.{segments_of, read_path}
 use Rattle.iref_grammar.proofs.CutLemmas.{before-no, from_first-no, before-yes, from_first-yes}
 use Rattle.iref_path.specs.{Pieces.{pieces_if_some}, Slashes.{IsLastSlash, LacksSlashFrom, slash_mask}}
-use Rattle.iref_model.proofs.PieceLemmas.{some_piece, pieces-append}
+use Rattle.iref_grammar.proofs.PieceLemmas.{some_piece, pieces-append}
 
 -- no character of the text is a slash
 abbrev pub LacksSlash : Text → Type 0

@@ -9,14 +9,14 @@ use Rattle.iref_grammar.specs.{declared.context.PathContext.{PathContext}, Conte
 use Rattle.iref_grammar.specs.PathValue.{PathValue, is_one_empty, read_path, segments_of, spell_path}
 use Rattle.iref_grammar.proofs.{TextLemmas.{join-pieces_at}, PathLemmas.{read_path-reads, read-spelled}}
 use Rattle.iref_grammar.proofs.PathTestLemmas.{is_path-segments}
-use Rattle.iref_model.specs.{Guard.{guarded}, NormalList.{normal_segments}, NormalReading.{open_before, staying_before}}
-use Rattle.iref_model.specs.PathSteps.{normalized}
+use Rattle.iref_grammar.specs.{Guard.{guarded}, NormalList.{normal_segments}, NormalReading.{open_before, staying_before}}
+use Rattle.iref_grammar.specs.PathSteps.{normalized}
 use Rattle.iref_path.specs.{PathParts.{is_path_after}, NormalItems.{first_or, flagged_path}}
 use Rattle.iref_path.specs.Spelling.{each_closed, guard, guard_in, normal_in}
-use Rattle.iref_model.proofs.{GuardLemmas.{guarded-fits}, PieceLemmas.{some_piece}}
-use Rattle.iref_model.proofs.{ItemLemmas.{name_no_parent, normal_segments-is}, NormalGrammarLemmas.{takes_dots}}
-use Rattle.iref_model.proofs.StepSegmentLemmas.{TakesDots, guarded-in, normal-in}
-use Rattle.iref_model.proofs.{PathGrammarLemmas.{segments_of_path}, RewritingLemmas.{not_lone}}
+use Rattle.iref_grammar.proofs.{GuardLemmas.{guarded-fits}, PieceLemmas.{some_piece}}
+use Rattle.iref_grammar.proofs.{ItemLemmas.{name_no_parent, normal_segments-is}, NormalGrammarLemmas.{takes_dots}}
+use Rattle.iref_grammar.proofs.StepSegmentLemmas.{TakesDots, guarded-in, normal-in}
+use Rattle.iref_grammar.proofs.{PathGrammarLemmas.{segments_of_path}, RewritingLemmas.{not_lone}}
 
 -- ---- segments with a `/` after each
 

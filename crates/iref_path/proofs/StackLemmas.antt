@@ -3,7 +3,7 @@ use Rattle.std.proofs.Common.{◌≡◌, ℕ, ◌+◌, ◌<◌, Bool, List, [], 
 use Rattle.std.proofs.lemmas.List.{at_drop_more, reverse-append}
 use Rattle.std.specs.{Borrow.{Bor}, List.{join_with_byte}}
 use Rattle.iref_grammar.specs.{Grammar.{slash}, Rules.{Text}}
-use Rattle.iref_model.specs.NormalReading.{closing}
+use Rattle.iref_grammar.specs.NormalReading.{closing}
 use Rattle.iref_path.specs.{Spelling.{each_closed}, Pieces.{text_at}, Stacks.{Completes, in_order}}
 use Rattle.iref_path.specs.declared.normal_items.stack.Stack.{Stack}
 use Rattle.iref_path.proofs.{NormalItemsLemmas.{parts_left}, SpellLemmas.{closed_last, joined_last}}

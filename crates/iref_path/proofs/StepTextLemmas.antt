@@ -9,7 +9,7 @@ use Rattle.std.specs.{List.{join_with_byte, splice}, Str.{IsCharBoundary}}
 use Rattle.iref_grammar.specs.{declared.context.PathContext.{PathContext}, Rules.{Text}, Grammar.{slash}}
 use Rattle.iref_grammar.specs.{Texts.{is_empty}, PathValue.{PathValue, read_path, spell_path}}
 use Rattle.iref_grammar.proofs.PathLemmas.{read_path-reads}
-use Rattle.iref_model.specs.{Guard.{guarded}, PathSteps.{lazy_pushed, closed_path}}
+use Rattle.iref_grammar.specs.{Guard.{guarded}, PathSteps.{lazy_pushed, closed_path}}
 use Rattle.iref_splice.specs.Changes.{IsWithin}
 use Rattle.iref_path.specs.{Spelling.{first_needs_guard, guard}, StepTexts.{closed_by}}
 

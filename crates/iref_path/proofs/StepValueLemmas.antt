@@ -8,11 +8,11 @@ use Rattle.iref_grammar.specs.PathValue.{PathValue, read_path, spell_path, shows
 use Rattle.iref_grammar.specs.Contexts.{fits, follows_authority, is_readable_path}
 use Rattle.iref_grammar.proofs.ComponentLackLemmas.{slash_cuts, segments_lack}
 use Rattle.iref_grammar.proofs.{PathLemmas.{read-spelled, read_path-reads}, PathTestLemmas.{is_path-segments}}
-use Rattle.iref_model.specs.{Guard.{guarded}, PathSteps.{lazy_pushed, popped, closed_path, followed, pushed, cleared}}
-use Rattle.iref_model.proofs.GuardLemmas.{guarded-fits, guarded_list-shows}
-use Rattle.iref_model.proofs.FitsLemmas.{is_empty-snoc, lazy_pushed-fits, popped-fits, closed_path-fits, followed-fits, pushed-fits, cleared-fits}
-use Rattle.iref_model.proofs.{PathGrammarLemmas.{segments_of_path}, NormalGrammarLemmas.{takes_dots}}
-use Rattle.iref_model.proofs.StepSegmentLemmas.{guarded-in, lazy_pushed-in, popped-in, closed_path-in, followed-in, pushed-in}
+use Rattle.iref_grammar.specs.{Guard.{guarded}, PathSteps.{lazy_pushed, popped, closed_path, followed, pushed, cleared}}
+use Rattle.iref_grammar.proofs.GuardLemmas.{guarded-fits, guarded_list-shows}
+use Rattle.iref_grammar.proofs.FitsLemmas.{is_empty-snoc, lazy_pushed-fits, popped-fits, closed_path-fits, followed-fits, pushed-fits, cleared-fits}
+use Rattle.iref_grammar.proofs.{PathGrammarLemmas.{segments_of_path}, NormalGrammarLemmas.{takes_dots}}
+use Rattle.iref_grammar.proofs.StepSegmentLemmas.{guarded-in, lazy_pushed-in, popped-in, closed_path-in, followed-in, pushed-in}
 use Rattle.iref_splice.specs.{Changes.{IsWithin, changed}, declared.change.Change.{Change}}
 use Rattle.iref_path.specs.PathParts.{is_path_after, StepsBy, StepsTo}
 

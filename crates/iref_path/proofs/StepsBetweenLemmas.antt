@@ -3,8 +3,8 @@ use Rattle.std.proofs.Common.{append_assoc, ◌≡◌, ◌∙◌, ap, refl, Bool
 use Rattle.std.proofs.{lemmas.List.{take_at, drop-append-le}, lemmas.List.Sums.{common_prefix_len-le}}
 use Rattle.std.specs.List.{common_prefix_len}
 use Rattle.iref_grammar.specs.{Rules.{Text}, Texts.{all_but_last}}
-use Rattle.iref_model.specs.{NormalList.{count_parents}, Relative.{last_or_empty}}
-use Rattle.iref_model.proofs.LeadingLemmas.{divided_last}
+use Rattle.iref_grammar.specs.{NormalList.{count_parents}, Relative.{last_or_empty}}
+use Rattle.iref_grammar.proofs.LeadingLemmas.{divided_last}
 use Rattle.iref_path.specs.{Spelling.{each_closed}, StepsBetween.{last_ones, steps_with, with_last}}
 use Rattle.iref_path.proofs.SpellLemmas.{last_size, size-append, size-parents, relative-spelled, list_size}
 use Rattle.iref_path.proofs.{SuffixLemmas.{size-drop}, RelativeStepLemmas.{up-joined, up-size}}

@@ -7,9 +7,9 @@ use Rattle.iref_grammar.specs.{Characters.{CharTests, AreAboveAscii}, Contexts.{
 use Rattle.iref_grammar.specs.{PathValue.{PathValue, read_path, spell_path}, Rules.{Text}, Grammar.{slash}}
 use Rattle.iref_grammar.specs.{Tests.{is_path, is_segment}, Texts.{lacks}}
 use Rattle.iref_grammar.proofs.PathLemmas.{read_path-reads}
-use Rattle.iref_model.specs.{NormalList.{normal_segments}, PathSuffix.{is_decoded_beginning, path_suffix, same_decoded}}
-use Rattle.iref_model.proofs.{LeadingLemmas.{all_drop}, NormalGrammarLemmas.{normal_in_grammar}}
-use Rattle.iref_model.proofs.StepSegmentLemmas.{normal-in}
+use Rattle.iref_grammar.specs.{NormalList.{normal_segments}, PathSuffix.{is_decoded_beginning, path_suffix, same_decoded}}
+use Rattle.iref_grammar.proofs.{LeadingLemmas.{all_drop}, NormalGrammarLemmas.{normal_in_grammar}}
+use Rattle.iref_grammar.proofs.StepSegmentLemmas.{normal-in}
 use Rattle.iref_path.specs.Spelling.{each_closed}
 use Rattle.iref_path.proofs.SpellLemmas.{guarded-in_context, guarded-read, lacks_dots, size-append, normal_size-text}
 

@@ -4,12 +4,12 @@ use Rattle.std.proofs.{lemmas.Grind.{common_steps}, lemmas.Bool.Decides.{nat_tes
 use Rattle.iref_grammar.specs.{Rules.{Text}, Grammar.{slash}, Texts.{all_but_last, is_empty, pieces_at}}
 use Rattle.iref_grammar.specs.{PathValue.{PathValue, is_one_empty, segments_of}, Contexts.{alone}}
 use Rattle.iref_grammar.proofs.TextLemmas.{join-pieces_at}
-use Rattle.iref_model.specs.{NormalList.{count_parents, kept_segments, normal_segments}, Guard.{guarded}}
-use Rattle.iref_model.specs.{Relative.{last_or_empty}, Relativized.{is_climb, shortened, steps_by_text}}
-use Rattle.iref_model.specs.RelativizedTests.{is_reachable_from}
-use Rattle.iref_model.proofs.{DirectoryLemmas.{all_but_last-snoc}, ItemLemmas.{name_no_parent}, JoinedLemmas.{climbs}}
-use Rattle.iref_model.proofs.{LeadingLemmas.{divided_last}, PieceLemmas.{some_piece}, AddedLemmas.{guarded-same}}
-use Rattle.iref_model.proofs.WalkLemmas.{climb-is}
+use Rattle.iref_grammar.specs.{NormalList.{count_parents, kept_segments, normal_segments}, Guard.{guarded}}
+use Rattle.iref_grammar.specs.{Relative.{last_or_empty}, Relativized.{is_climb, shortened, steps_by_text}}
+use Rattle.iref_grammar.specs.RelativizedTests.{is_reachable_from}
+use Rattle.iref_grammar.proofs.{DirectoryLemmas.{all_but_last-snoc}, ItemLemmas.{name_no_parent}, JoinedLemmas.{climbs}}
+use Rattle.iref_grammar.proofs.{LeadingLemmas.{divided_last}, PieceLemmas.{some_piece}, AddedLemmas.{guarded-same}}
+use Rattle.iref_grammar.proofs.WalkLemmas.{climb-is}
 use Rattle.iref_parse.specs.Dots.{begins_with_dot, has_dot_segment, is_some_dotted}
 use Rattle.iref_path.specs.{ShortestPaths.{are_some_parents, directory_of}, StepsBetween.{text_steps_by_text}}
 use Rattle.iref_path.proofs.ClimbLemmas.{all_parents, climb-last, kept-read}

@@ -1,7 +1,7 @@
 -- A path that is read from the back.
 use Rattle.std.specs.{Prelude.{◌≡◌, ℕ, ◌+◌, ◌≤◌, Bool, List, [], ◌∷◌, Option, Some, None}, Borrow.{Bor}}
 use Rattle.iref_grammar.specs.{Rules.{Text}, PathValue.{PathValue}}
-use Rattle.iref_model.specs.CountedEquality.{ItemRead, Comparison, items_read, all_items_read}
+use Rattle.iref_grammar.specs.CountedEquality.{ItemRead, Comparison, items_read, all_items_read}
 use Rattle.iref_path.specs.CountedSegments.{HasRoom, segments_counted, segments_left, unread}
 use Rattle.iref_path.specs.declared.counted.CountedPath.{CountedPath}
 use Rattle.iref_path.specs.declared.counted_segments.CountedSegments.{CountedSegments}

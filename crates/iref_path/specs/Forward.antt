@@ -1,7 +1,7 @@
 -- The normal list of segments, written forward with a `/` after each but the last (RFC 3986 section 5.2.4).
 use Rattle.std.specs.Prelude.{◌≡◌, ℕ, Bool, ◌-◌, ◌<◌, ◌≤◌, List, [], ◌∷◌, ◌++◌, drop, length, take, if◌then◌else◌}
 use Rattle.iref_grammar.specs.{Grammar.{slash}, Rules.{Text}, Texts.{all_but_last, is_empty, pieces_at}}
-use Rattle.iref_model.specs.NormalList.{is_dot_dot, is_name}
+use Rattle.iref_grammar.specs.NormalList.{is_dot_dot, is_name}
 use Rattle.iref_path.specs.Spelling.{each_closed}
 
 -- of segments with a `/` after each, all but the last

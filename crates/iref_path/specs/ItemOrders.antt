@@ -3,7 +3,7 @@ use Rattle.std.proofs.{Common.{◌≡◌, Bool, true, false, cond, refl, bytes_e
 use Rattle.std.specs.{Ordering.{is_eq}, Prelude.{if◌then◌else◌}}
 use Rattle.percent_encoding.specs.Percent.{percent_decode}
 use Rattle.iref_grammar.specs.{Keys.{text_order}, Rules.{Text}}
-use Rattle.iref_model.specs.PathSuffix.{same_decoded}
+use Rattle.iref_grammar.specs.PathSuffix.{same_decoded}
 
 -- by the bytes that they decode to
 abbrev pub decoded_order : Text → Text → Ordering

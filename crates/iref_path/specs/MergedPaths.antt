@@ -1,7 +1,7 @@
 -- The segments of two texts that are read as one (RFC 3986 section 5.2.3).
 use Rattle.std.specs.{Prelude.{Bool, true, ◌&&◌, List, ◌++◌, Option, if◌then◌else◌}, Borrow.{Bor}}
 use Rattle.iref_grammar.specs.{Rules.{Text}, Texts.{all_but_last, is_empty}, PathValue.{PathValue}}
-use Rattle.iref_model.specs.NormalReading.{staying_before}
+use Rattle.iref_grammar.specs.NormalReading.{staying_before}
 use Rattle.iref_path.specs.Pieces.{pieces_if_some}
 
 -- the segments of both texts

@@ -1,7 +1,7 @@
 -- The normal list of segments among which no `..` is.
 use Rattle.std.specs.Prelude.{ℕ, ◌+◌, Bool, false, ◌&&◌, List, [], ◌∷◌, ◌==◌, Option, Some, None, if◌then◌else◌}
 use Rattle.iref_grammar.specs.{Grammar.{percent_sign, slash}, Rules.{Text}, Texts.{is_empty}}
-use Rattle.iref_model.specs.NormalList.{is_dot}
+use Rattle.iref_grammar.specs.NormalList.{is_dot}
 
 -- the segments but `.`, which closes the list with an empty one where it comes last
 abbrev pub named : List Text → List Text

@@ -5,7 +5,7 @@ use Rattle.percent_encoding.specs.Percent.{percent_decode}
 use Rattle.iref_grammar.specs.{Rules.{Text}, PathValue.{PathValue, read_path}}
 use Rattle.iref_path.specs.{MergedPaths.{merged_list}, StepsBetween.{last_ones}, Pieces.{pieces_if_some}}
 use Rattle.iref_path.specs.declared.normal_items.NormalItems.{NormalItems}
-use Rattle.iref_model.specs.{NormalList.{is_dot_dot}, NormalReading.{closing, open_before, staying_before}}
+use Rattle.iref_grammar.specs.{NormalList.{is_dot_dot}, NormalReading.{closing, open_before, staying_before}}
 
 -- the path of a text, with a flag of its own
 abbrev pub flagged_path : Bool → Text → PathValue

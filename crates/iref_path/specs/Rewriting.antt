@@ -2,7 +2,7 @@
 use Rattle.std.specs.{Prelude.{ℕ, Bool, ◌-◌, ◌==◌, List, [], ◌++◌, take, if◌then◌else◌}, List.{join_with_byte, splice}}
 use Rattle.iref_splice.specs.{Changes.{part_at}, declared.change.Span.{Span}}
 use Rattle.iref_grammar.specs.{Grammar.{slash}, PathValue.{read_path}, Rules.{Text}, Texts.{pieces_at}}
-use Rattle.iref_model.specs.{NormalList.{normal_segments}, NormalReading.{items}}
+use Rattle.iref_grammar.specs.{NormalList.{normal_segments}, NormalReading.{items}}
 
 -- the segments before an index, where one begins: a `/` stands after each
 abbrev pub pieces_before : Text → ℕ → List Text

@@ -1,7 +1,7 @@
 -- The directory from which a relative path leads, and a list of `..`.
 use Rattle.std.specs.{Prelude.{Bool, false, not, ◌&&◌, List, []}, List.{list_all}}
 use Rattle.iref_grammar.specs.{Rules.{Text}, Texts.{all_but_last, is_empty}, PathValue.{PathValue}}
-use Rattle.iref_model.specs.NormalList.{is_dot_dot}
+use Rattle.iref_grammar.specs.NormalList.{is_dot_dot}
 use Rattle.iref_path.specs.MergedPaths.{path_after}
 
 -- the base's path without its last segment, as it is merged with a relative path (section 5.2.3)

@@ -3,7 +3,7 @@ use Rattle.std.specs.Prelude.{ℕ, Bool, false, not, ◌&&◌, ◌||◌, ◌==�
 use Rattle.std.specs.Char.{char_set_contains}
 use Rattle.iref_grammar.specs.{declared.context.PathContext.{PathContext}, Rules.{Text}, Grammar.{slash, colon}}
 use Rattle.iref_grammar.specs.{Texts.{is_empty}, PathValue.{PathValue}}
-use Rattle.iref_model.specs.PathSteps.{normalized}
+use Rattle.iref_grammar.specs.PathSteps.{normalized}
 use Rattle.iref_path.specs.NormalItems.{flagged_path}
 
 -- the segments, with a `/` after each

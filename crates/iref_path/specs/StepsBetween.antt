@@ -3,8 +3,8 @@ use Rattle.std.specs.Prelude.{ℕ, ◌-◌, Bool, false, List, [], ◌∷◌, �
 use Rattle.std.specs.List.{common_prefix_len}
 use Rattle.iref_grammar.specs.{Rules.{Text}, Grammar.{slash}, Texts.{all_but_last, pieces_at}, Contexts.{alone}}
 use Rattle.iref_grammar.specs.PathValue.{PathValue}
-use Rattle.iref_model.specs.{Guard.{guarded}, NormalList.{normal, normal_segments}}
-use Rattle.iref_model.specs.{Relative.{directory_names, last_or_empty, steps_between}, Relativized.{steps_by_text}}
+use Rattle.iref_grammar.specs.{Guard.{guarded}, NormalList.{normal, normal_segments}}
+use Rattle.iref_grammar.specs.{Relative.{directory_names, last_or_empty, steps_between}, Relativized.{steps_by_text}}
 
 -- the last items of a list, this many
 abbrev pub last_ones : ℕ → List Text → List Text

@@ -4,7 +4,7 @@ ghost use Rattle.std.specs.{List.{common_prefix_len}, Prelude.{◌≡◌, ◌-�
 ghost use Rattle.std.specs.{Cmp.Lexicographic.{slice_cmp}, Ordering.{is_eq}};
 ghost use Rattle.std.specs.declared.cmp.Ordering.{Ordering};
 ghost use Rattle.iref_grammar.specs.Rules.{Text};
-ghost use Rattle.iref_model.specs.PathSuffix.{same_decoded};
+ghost use Rattle.iref_grammar.specs.PathSuffix.{same_decoded};
 ghost use Rattle.iref_path.specs.ItemOrders.{decoded-decides, decoded_order, equal_or_less, text-decides};
 ghost use Rattle.iref_path.specs.NormalItems.{IsSound, normal_left};
 

@@ -5,7 +5,8 @@
 //! `CountedSegments`, which counts.
 
 ghost use Rattle.std.specs.Prelude.{◌≡◌, ◌≢◌, ◌↔◌, ◌+◌, ◌-◌, ◌<◌, ◌≤◌, ◌^◌, ◌∷◌, true};
-ghost use Rattle.iref_model.specs.{read_path, items_compared, IsCountedAnswer, path_key, PathFunctions.{segment_count}};
+ghost use Rattle.iref_grammar.specs.{read_path, items_compared, IsCountedAnswer, path_key};
+ghost use Rattle.iref_grammar.specs.PathFunctions.{segment_count};
 ghost use Rattle.iref_path.specs.CountedPath.{IsAnswer, IsCountable, IsWhole, all_items_unread, both_counted};
 ghost use Rattle.iref_path.specs.{CountedPath.{items_unread, path_unread, segments_of}, CountedSegments.{IsCounted}};
 
@@ -143,7 +144,7 @@ pub fn path_texts_eq_counted(a: &str, b: &str, steps: &mut u128) -> bool
 }
 
 /// Whether the texts of two paths are those of equal paths.
-#[tactic(auto, using(crate::proofs::SlashLemmas::segment_counts, iref_model::proofs::CountedLemmas::decided))]
+#[tactic(auto, using(crate::proofs::SlashLemmas::segment_counts, iref_grammar::proofs::CountedLemmas::decided))]
 pub fn path_texts_eq(a: &str, b: &str) -> bool
     ensures { (result ≡ true) ↔ (path_key (read_path a.now) ≡ path_key (read_path b.now)) }
 {

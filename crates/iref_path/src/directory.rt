@@ -3,7 +3,7 @@
 ghost use Rattle.std.specs.Prelude.{◌≡◌, true, IfSome, option_map};
 ghost use Rattle.iref_grammar.specs.{is_path, read_path};
 ghost use Rattle.iref_path.specs.Pieces.{value_at};
-ghost use Rattle.iref_model.specs.PathFunctions as function;
+ghost use Rattle.iref_grammar.specs.PathFunctions as function;
 
 use iref_grammar::chars::CharSet;
 

@@ -5,7 +5,7 @@ ghost use Rattle.std.specs.Prelude.{◌≡◌, ◌≢◌, ◌<◌, ◌≤◌, �
 ghost use Rattle.std.specs.Prelude.{OnOk, take, true, vec_len};
 ghost use Rattle.iref_grammar.specs.{is_empty, pieces_at, read_path, slash, spell_path, Text};
 ghost use Rattle.iref_grammar.specs.{declared.context.PathContext.{PathContext}, Texts.{all_but_last}};
-ghost use Rattle.iref_model.specs.{PathSteps.{normalized}, NormalList.{is_name}};
+ghost use Rattle.iref_grammar.specs.{PathSteps.{normalized}, NormalList.{is_name}};
 ghost use Rattle.iref_path.specs.{Forward.{Follows, IsBehindDots, forward, popped_text}, MergedPaths.{path_after}};
 ghost use Rattle.iref_path.specs.Spelling.{each_closed};
 

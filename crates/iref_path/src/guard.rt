@@ -1,6 +1,6 @@
 //! What stands before a path, so that it is read as it was meant (RFC 3986 sections 3.3 and 4.2).
 ghost use Rattle.std.specs.Prelude.{◌≡◌, ◌≤◌, ◌++◌, true, length};
-ghost use Rattle.iref_model.specs.{read_path, spell_path, guarded};
+ghost use Rattle.iref_grammar.specs.{read_path, spell_path, guarded};
 
 use crate::segments::{first_segment, split_root};
 use crate::spell::{first_needs_guard, guard};

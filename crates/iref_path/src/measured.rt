@@ -3,7 +3,7 @@
 ghost use Rattle.std.specs.Prelude.{◌||◌, ◌&&◌, ◌≡◌, ◌+◌, ◌*◌, ◌<◌, ◌^◌, ◌++◌, Bool, Some, [], codes, false};
 ghost use Rattle.std.specs.{Prelude.{length, replicate, true, ℕ}, Fmt.{WritesOnOk}};
 ghost use Rattle.iref_grammar.specs.{alone, slash, read_path, spell_path, is_empty, Texts.{pieces_at}};
-ghost use Rattle.iref_model.specs.{Guard.{guarded}, PathSteps.{normalized}};
+ghost use Rattle.iref_grammar.specs.{Guard.{guarded}, PathSteps.{normalized}};
 ghost use Rattle.iref_parse.specs.Dots.{has_dot_segment};
 ghost use Rattle.iref_path.specs.Bodies.{after_front, parents_then};
 ghost use Rattle.iref_path.specs.MergedPaths.{merged_list, merged_path, path_after};

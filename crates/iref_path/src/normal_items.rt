@@ -6,13 +6,13 @@ ghost use Rattle.std.specs.Prelude.{◌≡◌, ◌+◌, ◌-◌, ◌<◌, ◌≤
 ghost use Rattle.std.specs.Prelude.{◌∷◌, ◌++◌, [], codes, false, length, replicate, take, IfNone, IfSome, None};
 ghost use Rattle.std.specs.List.{list_any};
 ghost use Rattle.iref_grammar.specs.{is_empty, read_path};
-ghost use Rattle.iref_model.specs.{normal_segments, open_before, staying_before, NormalList.{is_dot_dot}};
+ghost use Rattle.iref_grammar.specs.{normal_segments, open_before, staying_before, NormalList.{is_dot_dot}};
 ghost use Rattle.iref_path.specs.{MergedPaths.{both_names, merged_list, merged_path}, Pieces.{pieces_if_some, text_at}};
 ghost use Rattle.iref_path.specs.{Spelling.{each_closed}, NormalItems.{IsEnd, IsPlain, IsReadable, IsSettled, IsSound}};
 ghost use Rattle.iref_path.specs.NormalItems.{IsWhole, KeepsEnds, both_left, first_or, names_behind, names_staying};
 ghost use Rattle.iref_path.specs.NormalItems.{normal_left, open_at_start, open_behind, to_read, unread_items};
 ghost use Rattle.iref_path.specs.StepsBetween.{last_ones};
-ghost use Rattle.iref_model.specs.NormalList as list;
+ghost use Rattle.iref_grammar.specs.NormalList as list;
 
 mod climbs;
 pub mod rooted;

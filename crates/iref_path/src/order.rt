@@ -9,7 +9,7 @@ ghost use Rattle.std.specs.{Cmp.Lexicographic.{slice_cmp}, List.{list_any}};
 ghost use Rattle.std.specs.Prelude.{◌≡◌, ◌∷◌, ◌<◌, ◌≤◌, IfSome, MatchOption, false, length, map};
 ghost use Rattle.percent_encoding.specs.Percent.{percent_decode};
 ghost use Rattle.iref_grammar.specs.{read_path, slash, text_order, Texts.{pieces_at}};
-ghost use Rattle.iref_model.specs.{is_dot_dot, normal_segments, path_key, path_key_cmp};
+ghost use Rattle.iref_grammar.specs.{is_dot_dot, normal_segments, path_key, path_key_cmp};
 ghost use Rattle.iref_path.specs.{Named.{begins_with_dot_slash, named, rank}, Pieces.{pieces_if_some}};
 
 use crate::compare_lists::{Decoded, Sameness, compare_lists};

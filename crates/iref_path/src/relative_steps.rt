@@ -4,8 +4,8 @@
 ghost use Rattle.std.specs.Prelude.{◌≡◌, ◌+◌, ◌*◌, ◌^◌, ◌<◌, ◌≤◌, ◌++◌, IfNone, IfSome, [], codes, length, replicate};
 ghost use Rattle.std.specs.Prelude.{false};
 ghost use Rattle.iref_grammar.specs.{slash, Texts.{all_but_last, pieces_at}};
-ghost use Rattle.iref_model.specs.{normal_segments, read_path, Relative.{directory_names, steps_between}};
-ghost use Rattle.iref_model.specs.NormalList.{kept_segments};
+ghost use Rattle.iref_grammar.specs.{normal_segments, read_path, Relative.{directory_names, steps_between}};
+ghost use Rattle.iref_grammar.specs.NormalList.{kept_segments};
 ghost use Rattle.iref_parse.specs.Dots.{has_dot_segment};
 ghost use Rattle.iref_path.specs.{NormalItems.{IsSound, first_or, normal_left}, Spelling.{each_closed}};
 ghost use Rattle.iref_path.specs.ShortestPaths.{directory_at};

@@ -5,13 +5,13 @@ ghost use Rattle.std.specs.Prelude.{◌≡◌, ◌+◌, ◌*◌, ◌^◌, ◌<�
 ghost use Rattle.std.specs.Prelude.{false, is_some, length, nat_le, replicate};
 ghost use Rattle.iref_grammar.specs.{slash, alone, read_path, spell_path, segments_of};
 ghost use Rattle.iref_grammar.specs.Texts.{all_but_last, is_empty, pieces_at};
-ghost use Rattle.iref_model.specs.{Guard.{guarded}, normal_segments, NormalList.{count_parents, kept_segments}};
+ghost use Rattle.iref_grammar.specs.{Guard.{guarded}, normal_segments, NormalList.{count_parents, kept_segments}};
 ghost use Rattle.iref_parse.specs.Dots.{has_dot_segment};
 ghost use Rattle.iref_path.specs.MeasuredPaths.{IsMeasured, measured_text};
 ghost use Rattle.iref_path.specs.{NormalItems.{IsSound, normal_left}, Spelling.{each_closed}};
 ghost use Rattle.iref_path.specs.ShortestPaths.{directory_at, directory_of};
-ghost use Rattle.iref_model.specs.Relativized.{is_climb, path_from, shortened};
-ghost use Rattle.iref_model.specs.RelativizedTests.{is_reachable_from};
+ghost use Rattle.iref_grammar.specs.Relativized.{is_climb, path_from, shortened};
+ghost use Rattle.iref_grammar.specs.RelativizedTests.{is_reachable_from};
 
 use crate::compare_lists::ByText;
 use crate::measured::MeasuredPath;

@@ -4,7 +4,7 @@
 ghost use Rattle.std.specs.Prelude.{◌≡◌, ◌+◌, ◌-◌, ◌<◌, ◌≤◌, ◌^◌, ◌∷◌, ◌++◌, [], false, length, slice_range, take};
 ghost use Rattle.std.specs.{Prelude.{codes, replicate, vec_len}, List.{splice}};
 ghost use Rattle.std.specs.{Str.{IsUtf8}, String.{string_bytes, string_len}};
-ghost use Rattle.iref_model.specs.{read_path, spell_path, open_before, staying_before, normalized};
+ghost use Rattle.iref_grammar.specs.{read_path, spell_path, open_before, staying_before, normalized};
 ghost use Rattle.iref_splice.specs.Changes.{part_at};
 ghost use Rattle.iref_path.specs.Rewriting.{items_text, pieces_before, rewritten, rewritten_at};
 ghost use Rattle.iref_path.specs.{Spelling.{each_closed}, Written.{WritesBefore}};

@@ -2,7 +2,7 @@
 
 ghost use Rattle.std.specs.Prelude.{◌≡◌, true, bytes_eq};
 ghost use Rattle.iref_grammar.specs.{Contexts.{fits}, read_path, spell_path};
-ghost use Rattle.iref_model.specs.PathSteps.{normalized};
+ghost use Rattle.iref_grammar.specs.PathSteps.{normalized};
 
 use crate::measured::MeasuredPath;
 use iref_grammar::context::PathContext;

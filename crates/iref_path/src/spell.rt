@@ -5,7 +5,7 @@ ghost use Rattle.std.specs.Prelude.{◌≡◌, ◌+◌, ◌-◌, ◌<◌, ◌≤
 ghost use Rattle.std.specs.{Prelude.{replicate, IfOk, OnErr, OnOk}, List.{join_with_byte, list_any}};
 ghost use Rattle.std.specs.String.{string_bytes};
 ghost use Rattle.iref_grammar.specs.{is_path_in, colon, slash, read_path, spell_path, is_path};
-ghost use Rattle.iref_model.specs.PathSteps.{normalized};
+ghost use Rattle.iref_grammar.specs.PathSteps.{normalized};
 ghost use Rattle.iref_path.specs.{PathParts.{is_path_after}, NormalItems.{first_or, IsSound, normal_left}};
 ghost use Rattle.iref_path.specs.{Spelling.{each_closed, normal_in}, Stacks.{IsStacked, in_order, stacked_text}};
 ghost use Rattle.iref_path.specs.Spelling as spelling;

@@ -1,7 +1,7 @@
 //! The edits of a path, each one step, by its text (RFC 3986 sections 3.3 and 5.2.4).
 ghost use Rattle.std.specs.Prelude.{◌≡◌, ◌++◌, true};
 ghost use Rattle.iref_grammar.specs.{is_segment, is_path, read_path, spell_path};
-ghost use Rattle.iref_model.specs.PathSteps.{lazy_pushed, pushed, followed, popped, closed_path, cleared, replaced};
+ghost use Rattle.iref_grammar.specs.PathSteps.{lazy_pushed, pushed, followed, popped, closed_path, cleared, replaced};
 ghost use Rattle.iref_splice.specs.Changes.{IsNoLonger, IsWithin, changed};
 ghost use Rattle.iref_path.specs.{PathParts.{is_path_after, StepsBy}, StepTexts.{closed_by}};
 

@@ -3,7 +3,7 @@
 ghost use Rattle.std.specs.Prelude.{◌≡◌, ◌+◌, ◌<◌, ◌^◌, IfOk, IfSome, IsNone, IsOk, length, option_map, true};
 ghost use Rattle.std.specs.String.{string_bytes};
 ghost use Rattle.iref_grammar.specs.{PathValue.{read_path, spell_path}, Tests.{is_path}};
-ghost use Rattle.iref_model.specs.PathSuffix.{path_suffix};
+ghost use Rattle.iref_grammar.specs.PathSuffix.{path_suffix};
 ghost use Rattle.iref_path.specs.{Spelling.{each_closed}, Suffixes.{items_path}, NormalItems.{IsSound, normal_left}};
 
 use crate::compare_lists::{Decoded, compare_lists};
@@ -17,7 +17,7 @@ use std::alloc::Global;
 
 // The items of the path after those of the prefix, if these are a beginning of them, and both paths
 // are absolute or both relative.
-#[tactic(auto, using(crate::proofs::SuffixLemmas::beginnings), unfolding(iref_model::specs::PathSuffix::path_suffix))]
+#[tactic(auto, using(crate::proofs::SuffixLemmas::beginnings), unfolding(iref_grammar::specs::PathSuffix::path_suffix))]
 fn rest_after<'a>(prefix: &str, path: &'a str) -> Option<NormalItems<'a>>
     ensures rest { option_map items_path result
         ≡ path_suffix (read_path prefix.now) (read_path path.now) }

@@ -3,7 +3,7 @@ use Rattle.std.proofs.{lemmas.Grind.{common_steps}, Common.{◌≡◌, true, ari
 use Rattle.iref_grammar.specs.{Characters.{CharTests, AreAboveAscii}, Rules.{Text}, Authority.{AuthorityValue}}
 use Rattle.iref_grammar.specs.{ComponentOffsets.{offsets_of}, Reference.{is_readable, is_reference, read_reference}}
 use Rattle.iref_grammar.proofs.ReadableLemmas.{readable_read}
-use Rattle.iref_model.specs.ComponentSteps.{with_authority_step}
+use Rattle.iref_grammar.specs.ComponentSteps.{with_authority_step}
 use Rattle.iref_component.specs.declared.authority_mut.AuthorityMut.{AuthorityMut}
 use Rattle.iref_component.specs.AuthorityEdits.{edited_bytes, authority_mut_value, IsEditorAt, BecomesAuthority}
 use Rattle.iref_reference_text.proofs.AuthorityRangeLemmas.{authority_read_there, range_is, some_if_placed}

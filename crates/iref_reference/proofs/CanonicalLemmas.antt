@@ -5,8 +5,8 @@ use Rattle.std.proofs.{lemmas.Bool.Decides.{same_from_decides}, lemmas.Slice.Eq.
 use Rattle.iref_grammar.specs.{Characters.{AreAboveAscii, CharTests, uri_chars}, Rules.{Text}}
 use Rattle.iref_grammar.specs.Reference.{IsReadable, ReferenceValue, is_reference, read_reference}
 use Rattle.iref_grammar.proofs.ReferenceRuleLemmas.{Decides-is_uri_reference}
-use Rattle.iref_model.specs.Key.{key, key_cmp}
-use Rattle.iref_model.proofs.{MappedReferenceLemmas.{readable_text}, TieLemmas.{references_tie}}
+use Rattle.iref_grammar.specs.Key.{key, key_cmp}
+use Rattle.iref_grammar.proofs.{MappedReferenceLemmas.{readable_text}, TieLemmas.{references_tie}}
 use Rattle.iref_canonical.specs.Canonical.{canonical_text}
 use Rattle.iref_canonical.proofs.CanonicalKeyLemmas.{scheme-canonical}
 use Rattle.iref_canonical.proofs.CanonicalTextLemmas.{is_reference-canonical, text_keeps_key, text_read}

@@ -3,8 +3,8 @@ use Rattle.std.proofs.Common.{◌≡◌, true, arith}
 use Rattle.iref_grammar.specs.Characters.{iri_chars, iri_above_ascii, uri_chars, uri_above_ascii}
 use Rattle.iref_grammar.specs.{Reference.{is_reference, read_reference}, Rules.{Text}}
 use Rattle.iref_grammar.proofs.ReferenceRuleLemmas.{Decides-is_uri_reference}
-use Rattle.iref_model.specs.{Key.{key}, Mapping.{mapped}}
-use Rattle.iref_model.proofs.AsciiReferenceLemmas.{key-tested, read_reference-tested, uri_reference_stays}
+use Rattle.iref_grammar.specs.{Key.{key}, Mapping.{mapped}}
+use Rattle.iref_grammar.proofs.AsciiReferenceLemmas.{key-tested, read_reference-tested, uri_reference_stays}
 use Rattle.iref_reference.specs.Mappings.{IsMapped}
 
 pub kept : (iri text : Text) (IsUri : Type 0) → is_reference iri_chars iri ≡ true → (IsUri → is_reference uri_chars iri ≡ true) → text ≡ mapped iri

@@ -8,9 +8,9 @@ use Rattle.iref_grammar.specs.{Grammar.{IsUri, IsUriReference}, Keys.{text_order
 use Rattle.iref_grammar.specs.{Reference.{read_reference}, Rules.{InUtf8, Text}}
 use Rattle.iref_grammar.proofs.ComponentLemmas.{uri_if_scheme, scheme_if_uri}
 use Rattle.iref_grammar.proofs.ReferenceRuleLemmas.{Decides-is_uri, Decides-is_uri_reference}
-use Rattle.iref_model.specs.{AuthorityKey.{authority_key, authority_key_cmp}, Key.{key, key_cmp}}
-use Rattle.iref_model.specs.PathKey.{path_key, path_key_cmp}
-use Rattle.iref_model.proofs.{PartTieLemmas.{lower_case_tie, parts_tie}, TieLemmas.{references_tie}}
+use Rattle.iref_grammar.specs.{AuthorityKey.{authority_key, authority_key_cmp}, Key.{key, key_cmp}}
+use Rattle.iref_grammar.specs.PathKey.{path_key, path_key_cmp}
+use Rattle.iref_grammar.proofs.{PartTieLemmas.{lower_case_tie, parts_tie}, TieLemmas.{references_tie}}
 use Rattle.iref_component.specs.{Components.{text_of}, declared.rule_text.RuleText.{RuleText}}
 use Rattle.iref_reference.specs.{declared.parts.Parts.{Parts}, Parts.{uri_ref_parts_key}}
 

@@ -4,7 +4,7 @@ use Rattle.iref_grammar.specs.{declared.context.PathContext.{PathContext}, Chara
 use Rattle.iref_grammar.specs.{Rules.{Text}, PathValue.{PathValue}, ComponentOffsets.{offsets_of}}
 use Rattle.iref_grammar.specs.Reference.{context_of, is_readable, is_reference, read_reference}
 use Rattle.iref_grammar.proofs.{RangeLemmas.{path_range}, ReadableLemmas.{readable_read}}
-use Rattle.iref_model.specs.ComponentSteps.{with_path_step}
+use Rattle.iref_grammar.specs.ComponentSteps.{with_path_step}
 use Rattle.iref_component.specs.declared.path_mut.PathMut.{PathMut}
 use Rattle.iref_component.specs.PathEdits.{edited_bytes, path_mut_context, path_mut_value, IsEditorOf, BecomesPath}
 use Rattle.iref_reference_text.proofs.{EditLemmas.{path_replaced}, PathRangeLemmas.{path_stands}}

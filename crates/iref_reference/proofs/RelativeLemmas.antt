@@ -1,9 +1,9 @@
 -- What is known of what leads from a base to a target.
 use Rattle.std.proofs.Common.{◌≡◌, true, ap, subst, sym, ◌∙◌}
 use Rattle.iref_grammar.specs.{Characters.{CharTests}, Reference.{ReferenceValue, is_readable}}
-use Rattle.iref_model.specs.{Relative.{relative_to}, RelativeLaws.{IsOnlyPath}}
-use Rattle.iref_model.proofs.ReadableRelativeLemmas.{readable-stands}
-use Rattle.iref_model.proofs.RelativeLemmas.{relative_to-leads, relative_to-leads_full, relative_to-least, relative_to-no_root, relative_to-only_path}
+use Rattle.iref_grammar.specs.{Relative.{relative_to}, RelativeLaws.{IsOnlyPath}}
+use Rattle.iref_grammar.proofs.ReadableRelativeLemmas.{readable-stands}
+use Rattle.iref_grammar.proofs.RelativeLemmas.{relative_to-leads, relative_to-leads_full, relative_to-least, relative_to-no_root, relative_to-only_path}
 use Rattle.iref_reference.specs.Relatives.{ClimbsNoMore, LeadsThere, LeadsToTarget, WritesPathAlone}
 
 module _ (set : CharTests) (target base answer : ReferenceValue) (readable : is_readable set target ≡ true) (answer_is : answer ≡ relative_to target base) where

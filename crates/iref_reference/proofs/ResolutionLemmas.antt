@@ -4,8 +4,8 @@ use Rattle.iref_grammar.specs.{Characters.{AreAboveAscii, CharTests}, Rules.{Tex
 use Rattle.iref_grammar.specs.Reference.{ReferenceValue, is_uri, is_readable, is_reference, read_reference}
 use Rattle.iref_grammar.proofs.ComponentLemmas.{reference_if_uri, scheme_if_uri, uri_if_scheme}
 use Rattle.iref_grammar.proofs.ReferenceCutLemmas.{read_reference-spelled}
-use Rattle.iref_model.specs.Resolution.{resolved}
-use Rattle.iref_model.proofs.ResolvedLemmas.{resolved-readable}
+use Rattle.iref_grammar.specs.Resolution.{resolved}
+use Rattle.iref_grammar.proofs.ResolvedLemmas.{resolved-readable}
 use Rattle.iref_reference_text.specs.{ComponentLengths.{HasLengths}, Fronts.{IsSpelled}}
 use Rattle.iref_reference_text.specs.declared.lengths.Lengths.{Lengths}
 use Rattle.iref_reference_text.proofs.EditLemmas.{IsStep, is_step}

@@ -4,10 +4,10 @@ use Rattle.iref_grammar.specs.{Characters.{AreAboveAscii, CharTests}, Rules.{Tex
 use Rattle.iref_grammar.specs.ComponentTexts.{ComponentTexts, spell_components}
 use Rattle.iref_grammar.specs.Reference.{ReferenceValue, is_readable, is_reference, read_reference, spell}
 use Rattle.iref_grammar.proofs.ReferenceCutLemmas.{read_reference-spelled}
-use Rattle.iref_model.specs.{Relativized.{relativized}, RelativizedChoice.{chosen}, RelativizedLaws.{AreReadable}}
-use Rattle.iref_model.proofs.{ChosenLemmas.{relativized-chosen}, ExactLemmas.{relativized-exact}}
-use Rattle.iref_model.proofs.ReadableAnswerLemmas.{relativized-readable}
-use Rattle.iref_model.proofs.TextLawLemmas.{relativized-none_text, relativized-shortest_text}
+use Rattle.iref_grammar.specs.{Relativized.{relativized}, RelativizedChoice.{chosen}, RelativizedLaws.{AreReadable}}
+use Rattle.iref_grammar.proofs.{ChosenLemmas.{relativized-chosen}, ExactLemmas.{relativized-exact}}
+use Rattle.iref_grammar.proofs.ReadableAnswerLemmas.{relativized-readable}
+use Rattle.iref_grammar.proofs.TextLawLemmas.{relativized-none_text, relativized-shortest_text}
 use Rattle.iref_reference_text.specs.MeasuredReferences.{IsComposed, IsReady, measured_components, spell_texts}
 use Rattle.iref_reference_text.specs.declared.measured.MeasuredReference.{MeasuredReference}
 use Rattle.iref_reference_text.proofs.MeasuredLemmas.{composes}

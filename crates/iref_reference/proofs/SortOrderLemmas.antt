@@ -2,8 +2,8 @@
 use Rattle.std.proofs.{Common.{◌≡◌, true, sym, ◌∙◌, ap, subst}, Math.Logic.{◌↔◌}}
 use Rattle.std.specs.{Cmp.Lexicographic.{texts_ties}, Ordering.{eq_by_cmp, is_eq}}
 use Rattle.iref_grammar.specs.{Keys.{is_same_text, text_order}, Reference.{ReferenceValue}, Rules.{Text}}
-use Rattle.iref_model.specs.Key.{key_cmp}
-use Rattle.iref_model.proofs.TieLemmas.{references_tie}
+use Rattle.iref_grammar.specs.Key.{key_cmp}
+use Rattle.iref_grammar.proofs.TieLemmas.{references_tie}
 use Rattle.iref_canonical.specs.SortKey.{sort_key}
 use Rattle.iref_canonical.proofs.SortKeyLemmas.{text_order-sort_key}
 

@@ -2,8 +2,8 @@
 use Rattle.std.proofs.Common.{◌≡◌, Bool, true, false, ◌&&◌, arith, Option, Some, None, IsNone, option_map}
 use Rattle.iref_grammar.specs.{PathValue.{PathValue}, Reference.{ReferenceValue}, Rules.{Text}}
 use Rattle.iref_component.specs.{Components.{text_of}, declared.rule_text.RuleText.{RuleText}, Suffixes.{SpellsSuffix}}
-use Rattle.iref_model.specs.{PathSuffix.{path_suffix}, ReferenceSuffix.{reference_suffix}}
-use Rattle.iref_model.specs.Relative.{have_same_authority, have_same_scheme}
+use Rattle.iref_grammar.specs.{PathSuffix.{path_suffix}, ReferenceSuffix.{reference_suffix}}
+use Rattle.iref_grammar.specs.Relative.{have_same_authority, have_same_scheme}
 use Rattle.iref_reference.specs.ReferenceSuffixes.{SpellsReferenceSuffix}
 
 -- what is left of the path, with the query and fragment of the whole

@@ -1,7 +1,7 @@
 -- Texts of canonical references.
 use Rattle.std.specs.Prelude.{◌≡◌, Bool, bytes_eq}
 use Rattle.iref_grammar.specs.{Reference.{ReferenceValue, read_reference}, Rules.{Text}}
-use Rattle.iref_model.specs.Key.{key}
+use Rattle.iref_grammar.specs.Key.{key}
 use Rattle.iref_canonical.specs.Canonical.{canonical_text}
 
 -- the text is the canonical text of a key, and is read as a reference of this key

@@ -1,8 +1,8 @@
 -- What references are compared by: their components, each as it is compared by itself.
 use Rattle.iref_component.specs.Comparisons.{Comparison}
 use Rattle.iref_grammar.specs.Reference.{ReferenceValue, read_reference}
-use Rattle.iref_model.specs.Key.{key, key_cmp}
-use Rattle.iref_model.proofs.KeyOrderLemmas.{keys_separate, keys_total}
+use Rattle.iref_grammar.specs.Key.{key, key_cmp}
+use Rattle.iref_grammar.proofs.KeyOrderLemmas.{keys_separate, keys_total}
 use Rattle.iref_canonical.specs.Hashed.{fed_reference, IsReadableKey}
 use Rattle.iref_canonical.proofs.HashedLemmas.{reference-delimits}
 

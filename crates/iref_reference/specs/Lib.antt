@@ -9,9 +9,9 @@ pub use Rattle.iref_grammar.specs.Reference.{hierarchy, is_uri, is_reference, re
 pub use Rattle.iref_grammar.specs.Rules.{InUtf8, Text}
 pub use Rattle.iref_grammar.specs.Tests.{is_scheme, none_or}
 pub use Rattle.iref_grammar.specs.Texts.{before}
-pub use Rattle.iref_model.specs.ComponentSteps.{with_authority, with_fragment, with_path, with_query, with_scheme}
-pub use Rattle.iref_model.specs.Key.{key, key_cmp}
-pub use Rattle.iref_model.specs.ReferenceParts.{base_of, host_of, port_of, user_info_of}
+pub use Rattle.iref_grammar.specs.ComponentSteps.{with_authority, with_fragment, with_path, with_query, with_scheme}
+pub use Rattle.iref_grammar.specs.Key.{key, key_cmp}
+pub use Rattle.iref_grammar.specs.ReferenceParts.{base_of, host_of, port_of, user_info_of}
 pub use Rattle.iref_parse.specs.ReferenceSlices.{texts_of}
 pub use Rattle.iref_canonical.specs.Hashed.{fed_reference}
 pub use Rattle.iref_canonical.specs.HashedParts.{fed_components}

@@ -1,7 +1,7 @@
 -- Texts of IRIs, mapped to URIs (RFC 3987 section 3.1).
 use Rattle.std.specs.Prelude.{◌≡◌, Bool}
 use Rattle.iref_grammar.specs.{Rules.{Text}, Reference.{ReferenceValue, read_reference}}
-use Rattle.iref_model.specs.Mapping.{mapped, mapped_reference}
+use Rattle.iref_grammar.specs.Mapping.{mapped, mapped_reference}
 use Rattle.iref_reference.specs.declared.owned.ReferenceBuf.{ReferenceBuf}
 use Rattle.iref_reference.specs.References.{key_of_reference_buf, reference_buf_text}
 

@@ -3,7 +3,7 @@ use Rattle.std.specs.{Prelude.{Option, Some, option_map}, Str.{str_to_ascii_lowe
 use Rattle.iref_grammar.specs.{Rules.{Text}, ComponentTexts.{ComponentTexts, read_components}}
 use Rattle.iref_grammar.specs.Reference.{ReferenceValue}
 use Rattle.iref_component.specs.{Components.{text_of}, declared.rule_text.RuleText.{RuleText}}
-use Rattle.iref_model.specs.Key.{key}
+use Rattle.iref_grammar.specs.Key.{key}
 use Rattle.iref_reference.specs.declared.parts.Parts.{Parts}
 
 -- the texts of the parts, given that of the scheme, if it is there

@@ -2,7 +2,7 @@
 use Rattle.std.specs.Prelude.{◌≡◌, Option, option_map}
 use Rattle.iref_grammar.specs.{PathValue.{PathValue, spell_path}, Reference.{ReferenceValue}, Rules.{Text}}
 use Rattle.iref_component.specs.{Components.{text_of}, declared.rule_text.RuleText.{RuleText}, Paths.{path_value}}
-use Rattle.iref_model.specs.ReferenceSuffix.{reference_suffix}
+use Rattle.iref_grammar.specs.ReferenceSuffix.{reference_suffix}
 
 -- the path that the owned text is read as, and the texts of query and fragment
 abbrev pub left_value : {A P B I a p i b T Q U J t q j u S F V K s f k v : _} → RuleText A P B I a p i b × Option (RuleText T Q U J t q j u) × Option (RuleText S F V K s f k v) → PathValue × Option Text × Option Text

@@ -1,7 +1,7 @@
 -- The texts of references, borrowed and owned, what they are read as, and what they are compared by.
 use Rattle.std.specs.Prelude.{◌≡◌, ⊤, None, Result, MatchResult}
 use Rattle.iref_grammar.specs.{Rules.{Text}, Reference.{ReferenceValue, read_reference}}
-use Rattle.iref_model.specs.Key.{key}
+use Rattle.iref_grammar.specs.Key.{key}
 use Rattle.iref_component.specs.{Components.{text_of}, Makers.{ParsesUtf8}}
 use Rattle.iref_reference_text.specs.Steps.{IsStep, StepsOrStays}
 use Rattle.iref_reference.specs.{declared.borrowed.Reference.{Reference}, declared.owned.ReferenceBuf.{ReferenceBuf}}

@@ -1,8 +1,8 @@
 -- Texts of references that lead from a base to a target, the way back from resolution (RFC 3986 section 5.2).
 use Rattle.std.specs.Prelude.{◌≡◌, false, true, is_some}
 use Rattle.iref_grammar.specs.{Rules.{Text}, Reference.{ReferenceValue, read_reference}}
-use Rattle.iref_model.specs.{Key.{AreAlike}, Relative.{relative_to}}
-use Rattle.iref_model.specs.{RelativeLaws.{ClimbsLeast, DoAgree, IsOnlyPath, Leads}, Resolution.{resolved}}
+use Rattle.iref_grammar.specs.{Key.{AreAlike}, Relative.{relative_to}}
+use Rattle.iref_grammar.specs.{RelativeLaws.{ClimbsLeast, DoAgree, IsOnlyPath, Leads}, Resolution.{resolved}}
 use Rattle.iref_reference_text.specs.Steps.{Spells}
 
 -- the text spells what leads from the base to the target, and is read as that

@@ -1,6 +1,6 @@
 -- Texts that references resolve to (RFC 3986 section 5.2).
 use Rattle.iref_grammar.specs.{Rules.{Text}, Reference.{read_reference}}
-use Rattle.iref_model.specs.Resolution.{resolved}
+use Rattle.iref_grammar.specs.Resolution.{resolved}
 use Rattle.iref_reference_text.specs.Steps.{Spells}
 
 -- the text spells what the reference resolves to against the base, and is read as that

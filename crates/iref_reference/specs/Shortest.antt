@@ -2,7 +2,7 @@
 use Rattle.std.specs.Prelude.{◌≡◌, ◌≢◌, ◌≤◌, Option, None, Some, length, true}
 use Rattle.iref_grammar.specs.{Characters.{CharTests}, Rules.{Text}}
 use Rattle.iref_grammar.specs.Reference.{ReferenceValue, is_reference, read_reference, spell}
-use Rattle.iref_model.specs.{Resolution.{resolved}, Relativized.{relativized}}
+use Rattle.iref_grammar.specs.{Resolution.{resolved}, Relativized.{relativized}}
 
 -- the text spells the answer of the definition, and is read as that; without a text there is none
 abbrev pub IsRelativized : ReferenceValue → ReferenceValue → Option Text → Type 0

@@ -1,7 +1,7 @@
 -- Sort keys of references.
 use Rattle.std.specs.{Prelude.{◌≡◌, ◌↔◌, true}, BTreeMap.Lent.{OrdMembers}}
 use Rattle.iref_grammar.specs.{Reference.{ReferenceValue}, Rules.{Text}}
-use Rattle.iref_model.specs.Key.{key_cmp}
+use Rattle.iref_grammar.specs.Key.{key_cmp}
 use Rattle.iref_canonical.specs.SortKey.{sort_key}
 
 -- of the sort keys of two values, the order is that of the values, and equality is what it is of these

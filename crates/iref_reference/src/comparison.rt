@@ -2,7 +2,7 @@
 ghost use Rattle.std.specs.Cmp.{on_total, on_equiv, po, partial_equiv_from_equiv, eq_by_cmp_equiv};
 ghost use Rattle.std.specs.{Prelude.{◌≡◌}, Ordering.{on, as_partial_cmp, eq_by_cmp}, Cmp.Rules.{comparing}};
 ghost use Rattle.std.proofs.Common.{rules, refl, ap};
-ghost use Rattle.iref_model.proofs.KeyOrderLemmas.{keys_separate, keys_total};
+ghost use Rattle.iref_grammar.proofs.KeyOrderLemmas.{keys_separate, keys_total};
 ghost use Rattle.iref_canonical.specs.{Hashed.{IsReadableKey}, HashedParts.{HasPathKey}};
 ghost use Rattle.iref_component.specs.{key_cmp, fed_components, fed_reference, Comparisons.{ComparesBy}};
 ghost use Rattle.iref_reference.specs.Parts.{uri_ref_parts_key, uri_parts_key};
@@ -26,7 +26,7 @@ impl<R: HeldRule, C: CharSet> Ord for ReferenceBuf<R, C> {
 
     ghost matches_eq = { λ _ _. refl };
 
-    #[tactic(auto, unfolding(iref_model::specs::Key::key, iref_model::specs::Key::key_cmp))]
+    #[tactic(auto, unfolding(iref_grammar::specs::Key::key, iref_grammar::specs::Key::key_cmp))]
     fn cmp(&self, other: &Self) -> Ordering {
         self.reference_parts().cmp(&other.reference_parts())
     }

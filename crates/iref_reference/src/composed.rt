@@ -2,7 +2,7 @@
 //! 5.2 and 5.3).
 ghost use Rattle.std.specs.Prelude.{◌≡◌, ◌≤◌, ◌++◌, drop, IfOk, is_some, length, OnErr, OnOk, Option, Some, true};
 ghost use Rattle.iref_grammar.specs.{Rules.{Text}, Texts.{is_empty}};
-ghost use Rattle.iref_model.specs.{Relative.{relative_to}, Resolution.{resolved}};
+ghost use Rattle.iref_grammar.specs.{Relative.{relative_to}, Resolution.{resolved}};
 ghost use Rattle.iref_reference_text.specs.{AreComponents, is_readable, texts_of, value_of};
 ghost use Rattle.iref_reference_text.specs.MeasuredReferences.{IsComposed, measured_components, spell_texts};
 ghost use Rattle.iref_reference_text.specs.Steps.{Spells};

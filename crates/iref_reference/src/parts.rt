@@ -2,7 +2,7 @@
 ghost use Rattle.std.specs.Prelude.{MatchResult, ◌≡◌, ◌↔◌, ⊤, true, Option, Some, option_map, IfOk, IfSome, is_some};
 ghost use Rattle.std.specs.{Str.{str_to_ascii_lowercase}, Option.{option_copied}};
 ghost use Rattle.std.proofs.{Common.{ap}, lemmas.Option.{same_Some}};
-ghost use Rattle.iref_model.proofs.{PartTieLemmas.{lower_case_tie, parts_tie}, TieLemmas.{texts_tie}};
+ghost use Rattle.iref_grammar.proofs.{PartTieLemmas.{lower_case_tie, parts_tie}, TieLemmas.{texts_tie}};
 ghost use Rattle.iref_component.specs.{IsUri, IsUriReference, fed_components, text_of};
 ghost use Rattle.iref_component.specs.{parts_value as authority_parts_value};
 ghost use Rattle.iref_reference_text.specs.{texts_of, AreComponents, spell_components, is_scheme, none_or, is_readable};
@@ -235,7 +235,7 @@ impl<'a, C: CharSet> UriParts<'a, C> {
     }
 }
 
-#[tactic(auto, unfolding(iref_model::specs::Key::key, iref_canonical::specs::HashedParts::fed_components))]
+#[tactic(auto, unfolding(iref_grammar::specs::Key::key, iref_canonical::specs::HashedParts::fed_components))]
 impl<'a, S: SchemePart<'a>, C: CharSet> Hash for Parts<'a, S, C> {
     ghost hash_input = { λ parts. fed_components (key_of_parts S.text parts) };
 

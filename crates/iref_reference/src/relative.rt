@@ -2,8 +2,8 @@
 //! resolve to a text, character for character (RFC 3986 sections 4.2 and 5.2), and what is left of a
 //! reference after a prefix, both by their keys.
 ghost use Rattle.std.specs.Prelude.{◌≡◌, ◌&&◌, IfNone, IfOk, IfSome, IsNone, IsOk, option_map, true};
-ghost use Rattle.iref_model.specs.Relative.{have_same_authority, have_same_scheme, relative_to};
-ghost use Rattle.iref_model.specs.{ReferenceSuffix.{reference_suffix}, Relativized.{relativized}};
+ghost use Rattle.iref_grammar.specs.Relative.{have_same_authority, have_same_scheme, relative_to};
+ghost use Rattle.iref_grammar.specs.{ReferenceSuffix.{reference_suffix}, Relativized.{relativized}};
 ghost use Rattle.iref_reference_text.specs.{is_readable, Steps.{Spells}};
 ghost use Rattle.iref_reference.specs.Parts.{parts_value, uri_parts_value, uri_ref_parts_value};
 ghost use Rattle.iref_reference.specs.ReferenceSuffixes.{SpellsReferenceSuffix};
@@ -28,7 +28,7 @@ use std::alloc::Global;
 pub type Suffix<'a, C> = (PathBuf<C>, Option<Query<'a, C>>, Option<Fragment<'a, C>>);
 
 // Whether the schemes are equal, and the authorities.
-#[tactic(auto, using(iref_model::proofs::PartTieLemmas::parts_tested), unfolding(iref_model::specs::Key::key))]
+#[tactic(auto, using(iref_grammar::proofs::PartTieLemmas::parts_tested), unfolding(iref_grammar::specs::Key::key))]
 fn share_scheme_and_authority<C: CharSet>(
     prefix: &UriRefParts<'_, C>,
     parts: &UriRefParts<'_, C>,

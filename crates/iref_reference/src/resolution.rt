@@ -2,7 +2,7 @@
 //! resolves to: that is written into a buffer of its own, and only then takes the place of the text.
 ghost use Rattle.std.specs.Prelude.{◌≡◌, IfErr, IfOk, IsSome, OnErr, OnOk, true};
 ghost use Rattle.iref_grammar.specs.{Grammar.{IsUri, IsUriReference}, Rules.{InUtf8}};
-ghost use Rattle.iref_model.specs.Resolution.{resolved};
+ghost use Rattle.iref_grammar.specs.Resolution.{resolved};
 ghost use Rattle.iref_fault.specs.Tried.{TellsInvalid};
 ghost use Rattle.iref_component.specs.{is_reference, is_uri, read_reference};
 ghost use Rattle.iref_reference_text.specs.{is_readable, value_of, Steps.{Spells}};

@@ -181,7 +181,7 @@ impl Key for ReferenceKey {
 
     ghost has_key = { λ tests text. is_reference tests text ≡ true };
 
-    #[tactic(auto, unfolding(iref_model::specs::Key::key, iref_model::specs::Key::key_cmp))]
+    #[tactic(auto, unfolding(iref_grammar::specs::Key::key, iref_grammar::specs::Key::key_cmp))]
     fn compare<C: CharSet>(a: &str, b: &str) -> Ordering {
         UriRefParts::<C>::of_text(a).cmp(&UriRefParts::of_text(b))
     }

@@ -3,7 +3,7 @@
 ghost use Rattle.std.specs.Prelude.{◌≡◌, IfErr, IfOk, IsNone, IsOk, None, OnOk, option_map, Some};
 ghost use Rattle.std.specs.Option.{option_copied};
 ghost use Rattle.iref_grammar.specs.Grammar.{IsAuthority, IsFragment, IsPath, IsQuery, IsScheme};
-ghost use Rattle.iref_model.specs.ComponentSteps.{with_new_normal_path};
+ghost use Rattle.iref_grammar.specs.ComponentSteps.{with_new_normal_path};
 ghost use Rattle.iref_component.specs.{InUtf8, Tests, TestsIfSome, path_value, read_authority, read_path, text_of};
 ghost use Rattle.iref_reference_text.specs.{with_authority, with_fragment, with_path, with_query, with_scheme};
 ghost use Rattle.iref_reference_text.specs.{PathRanges.{RemovesDots}, Steps.{IsStep}};

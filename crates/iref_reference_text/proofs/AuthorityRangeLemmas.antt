@@ -8,8 +8,8 @@ use Rattle.iref_grammar.specs.Reference.{ReferenceValue, is_reference, read_refe
 use Rattle.iref_grammar.proofs.AuthorityLemmas.{read_authority-spelled}
 use Rattle.iref_grammar.proofs.AuthorityRuleLemmas.{authority_read, Decides-has_authority_parts}
 use Rattle.iref_grammar.proofs.{RangeLemmas.{authority_range}, ReadablePartsLemmas.{readable_parts}}
-use Rattle.iref_model.specs.ComponentSteps.{with_authority_step}
-use Rattle.iref_model.proofs.ReferenceStepLemmas.{with_whole_authority-readable}
+use Rattle.iref_grammar.specs.ComponentSteps.{with_authority_step}
+use Rattle.iref_grammar.proofs.ReferenceStepLemmas.{with_whole_authority-readable}
 use Rattle.iref_splice.specs.{Changes.{IsWithin}, declared.change.Span.{Span}}
 use Rattle.iref_reference_text.specs.AuthorityRanges.{IsAuthorityOf, authority_part, range_of_authority}
 use Rattle.iref_reference_text.specs.ComponentLengths.{HasLengths, lengths_of, with_mark}

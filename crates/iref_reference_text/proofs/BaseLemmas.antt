@@ -14,8 +14,8 @@ use Rattle.iref_grammar.proofs.{TextLemmas.{join-pieces_at}, PathLemmas.{read_pa
 use Rattle.iref_grammar.proofs.{ReadablePartsLemmas.{readable_parts}, ReadableLemmas.{readable_read}}
 use Rattle.iref_grammar.proofs.ComponentLemmas.{uri_if_scheme, scheme_if_uri, reference_if_uri}
 use Rattle.iref_grammar.proofs.EmptyLemmas.{is_segment_empty}
-use Rattle.iref_model.specs.{NormalList.{closed}, PathFunctions.{directory}, ReferenceParts.{base_of}}
-use Rattle.iref_model.proofs.{DirectoryLemmas.{all_but_last-snoc}, PieceLemmas.{some_piece}}
+use Rattle.iref_grammar.specs.{NormalList.{closed}, PathFunctions.{directory}, ReferenceParts.{base_of}}
+use Rattle.iref_grammar.proofs.{DirectoryLemmas.{all_but_last-snoc}, PieceLemmas.{some_piece}}
 use Rattle.iref_reference_text.specs.ComponentLengths.{lengths_of_texts, query_after}
 use Rattle.iref_reference_text.proofs.LengthLemmas.{query_after-texts}
 use Rattle.iref_reference_text.proofs.ReferenceTextLemmas.{behind_path, components_utf8}

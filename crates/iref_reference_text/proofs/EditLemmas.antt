@@ -12,9 +12,9 @@ use Rattle.iref_grammar.specs.PathValue.{PathValue, read_path, spell_path}
 use Rattle.iref_grammar.specs.Reference.{ReferenceValue, context_of, spell, read_reference, is_readable, is_reference}
 use Rattle.iref_grammar.specs.ComponentOffsets.{offsets_in, offsets_of}
 use Rattle.iref_grammar.specs.Tests.{is_fragment, is_path, is_query, is_scheme, none_or}
-use Rattle.iref_model.specs.ComponentSteps.{with_query, with_fragment, with_path, with_new_normal_path, with_authority, with_authority_step, with_scheme}
-use Rattle.iref_model.specs.Guard.{guarded}
-use Rattle.iref_model.proofs.ReferenceStepLemmas.{with_authority-readable, with_fragment-readable, with_new_normal_path-readable, with_path-readable, with_query-readable, with_scheme-readable}
+use Rattle.iref_grammar.specs.ComponentSteps.{with_query, with_fragment, with_path, with_new_normal_path, with_authority, with_authority_step, with_scheme}
+use Rattle.iref_grammar.specs.Guard.{guarded}
+use Rattle.iref_grammar.proofs.ReferenceStepLemmas.{with_authority-readable, with_fragment-readable, with_new_normal_path-readable, with_path-readable, with_query-readable, with_scheme-readable}
 use Rattle.iref_reference_text.specs.{AuthorityRanges.{range_of_authority}, declared.lengths.Lengths.{Lengths}}
 use Rattle.iref_reference_text.specs.ComponentLengths.{fragment_after, HasLengths, lengths_of, path_after, query_after}
 use Rattle.iref_reference_text.specs.Steps.{Spells}

@@ -9,9 +9,9 @@ use Rattle.iref_grammar.specs.PathValue.{PathValue, read_path, segments_of, spel
 use Rattle.iref_grammar.specs.{ComponentTexts.{ComponentTexts, read_components, spell_components}, Reference.{spell}}
 use Rattle.iref_grammar.proofs.ComponentLemmas.{authority_spelled, spell_components-read}
 use Rattle.iref_grammar.proofs.{PathLemmas.{lacks-segments_of, read_path-reads}, TextLemmas.{pieces_at-front}}
-use Rattle.iref_model.specs.{NormalList.{closed, normal}, PathFunctions.{directory}, PathSteps.{normalized}}
-use Rattle.iref_model.specs.{ReferenceParts.{base_of}, Resolution.{resolved}}
-use Rattle.iref_model.proofs.PieceLemmas.{some_piece}
+use Rattle.iref_grammar.specs.{NormalList.{closed, normal}, PathFunctions.{directory}, PathSteps.{normalized}}
+use Rattle.iref_grammar.specs.{ReferenceParts.{base_of}, Resolution.{resolved}}
+use Rattle.iref_grammar.proofs.PieceLemmas.{some_piece}
 use Rattle.iref_parse.specs.Dots.{has_dot_segment, is_some_dotted}
 use Rattle.iref_path.specs.MergedPaths.{path_after}
 use Rattle.iref_path.proofs.DotlessLemmas.{both_dotted, dotless-spelled, normal_segments-dotless}

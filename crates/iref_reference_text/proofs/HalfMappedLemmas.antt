@@ -5,9 +5,9 @@ use Rattle.std.proofs.lemmas.List.{length-append, length-drop, length-take-le, t
 use Rattle.std.proofs.Math.Seq.{take-length, drop-length, drop-append_seam}
 use Rattle.std.specs.Char.{is_ascii}
 use Rattle.iref_grammar.specs.Rules.{Text}
-use Rattle.iref_model.specs.Mapping.{mapped_byte, mapped, count_escaped, mapped_index}
-use Rattle.iref_model.proofs.MappedLemmas.{mapped-nil, mapped-ascii, length-mapped, none_escaped}
-use Rattle.iref_model.proofs.MappedBackLemmas.{mapped-split, mapped-drop, mapped_index-next, mapped_index-is}
+use Rattle.iref_grammar.specs.Mapping.{mapped_byte, mapped, count_escaped, mapped_index}
+use Rattle.iref_grammar.proofs.MappedLemmas.{mapped-nil, mapped-ascii, length-mapped, none_escaped}
+use Rattle.iref_grammar.proofs.MappedBackLemmas.{mapped-split, mapped-drop, mapped_index-next, mapped_index-is}
 
 -- the first left bytes of the text stand in the buffer, and the mapping of the others from end on
 pub record IsHalfMapped (text buffer : Text) (left end : ℕ) : Type 0 where

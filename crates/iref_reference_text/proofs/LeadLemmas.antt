@@ -6,7 +6,7 @@ use Rattle.iref_grammar.specs.{Tests.{is_scheme}, Texts.{then_part}, Authority.{
 use Rattle.iref_grammar.specs.{PathValue.{PathValue, spell_path}, Contexts.{fits}}
 use Rattle.iref_grammar.specs.Reference.{ReferenceValue, context_of, is_readable}
 use Rattle.iref_grammar.proofs.ReadablePartsLemmas.{readable_parts}
-use Rattle.iref_model.specs.{Guard.{guarded}, ComponentSteps.{with_authority, with_scheme}}
+use Rattle.iref_grammar.specs.{Guard.{guarded}, ComponentSteps.{with_authority, with_scheme}}
 use Rattle.iref_reference_text.specs.ComponentLengths.{with_mark}
 use Rattle.iref_reference_text.proofs.LengthLemmas.{context-lengths}
 use Rattle.iref_path.proofs.GuardTextLemmas.{guarded-same, rooted}

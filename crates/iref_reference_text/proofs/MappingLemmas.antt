@@ -2,8 +2,8 @@
 use Rattle.std.proofs.Common.{◌≡◌, ap, ◌∙◌, Bool, true, Option}
 use Rattle.iref_grammar.specs.{Characters.{CharTests, AreAboveAscii, uri_chars}, Rules.{Text}}
 use Rattle.iref_grammar.specs.Reference.{read_reference, is_reference}
-use Rattle.iref_model.specs.Mapping.{mapped}
-use Rattle.iref_model.proofs.AsciiReferenceLemmas.{is_reference-mapped, scheme-tested}
+use Rattle.iref_grammar.specs.Mapping.{mapped}
+use Rattle.iref_grammar.proofs.AsciiReferenceLemmas.{is_reference-mapped, scheme-tested}
 
 -- the mapping is in the rule that the text is in, over the characters of URIs
 pub mapping-in_rule : (test : CharTests → Text → Bool) (allows : Option Text → Bool)

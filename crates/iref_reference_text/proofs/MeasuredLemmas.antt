@@ -1,13 +1,13 @@
 -- The components of what a reference resolves to, as texts.
 use Rattle.std.proofs.Common.{arith, ◌≡◌, Bool, true, false, ◌||◌, [], ◌∷◌, refl, ◌∙◌, ap, ◌≢◌, Option, is_some}
-use Rattle.iref_model.proofs.{MappedMarkLemmas.{is_some-map}, PieceLemmas.{some_piece}}
+use Rattle.iref_grammar.proofs.{MappedMarkLemmas.{is_some-map}, PieceLemmas.{some_piece}}
 use Rattle.std.specs.{Borrow.{Bor}, Option.{option_copied, option_or}}
 use Rattle.iref_grammar.specs.{Rules.{Text}, PathValue.{read_path, spell_path}, Contexts.{fits}}
 use Rattle.iref_grammar.specs.Characters.{AreAboveAscii, CharTests}
 use Rattle.iref_grammar.specs.Reference.{ReferenceValue, context_of, is_readable, is_reference, read_reference, spell}
 use Rattle.iref_grammar.specs.ComponentTexts.{ComponentTexts, read_components, spell_components}
 use Rattle.iref_grammar.proofs.{PathLemmas.{read_path-reads}, ComponentLemmas.{authority_spelled}}
-use Rattle.iref_model.specs.{PathSteps.{normalized}, Resolution.{is_no_path, resolved}}
+use Rattle.iref_grammar.specs.{PathSteps.{normalized}, Resolution.{is_no_path, resolved}}
 use Rattle.iref_path.specs.MergedPaths.{path_after}
 use Rattle.iref_path.proofs.GuardTextLemmas.{guarded-same}
 use Rattle.iref_reference_text.specs.ComponentLengths.{lengths_of_texts}

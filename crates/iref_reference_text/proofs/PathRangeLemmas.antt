@@ -8,10 +8,10 @@ use Rattle.iref_grammar.specs.Reference.{ReferenceValue, read_reference, context
 use Rattle.iref_grammar.proofs.{PathLemmas.{read_path-reads, read-spelled}, PathTestLemmas.{is_path-segments}}
 use Rattle.iref_grammar.proofs.{ReadableLemmas.{readable_delimited}, ReadablePartsLemmas.{readable_parts}}
 use Rattle.iref_grammar.proofs.RangeLemmas.{path_range}
-use Rattle.iref_model.specs.{Guard.{guarded, made_absolute}, NormalList.{normal}}
-use Rattle.iref_model.specs.ComponentSteps.{with_path, with_new_normal_path}
-use Rattle.iref_model.proofs.NormalPathLemmas.{normal-with_dot}
-use Rattle.iref_model.proofs.ReferenceStepLemmas.{with_path-readable, with_normal_path-removes}
+use Rattle.iref_grammar.specs.{Guard.{guarded, made_absolute}, NormalList.{normal}}
+use Rattle.iref_grammar.specs.ComponentSteps.{with_path, with_new_normal_path}
+use Rattle.iref_grammar.proofs.NormalPathLemmas.{normal-with_dot}
+use Rattle.iref_grammar.proofs.ReferenceStepLemmas.{with_path-readable, with_normal_path-removes}
 use Rattle.iref_path.specs.{PathParts.{is_path_after}, Spelling.{normal_in}}
 use Rattle.iref_splice.specs.{Changes.{IsWithin, part_at}, declared.change.Span.{Span}}
 use Rattle.iref_reference_text.specs.{ComponentLengths.{HasLengths, lengths_of}, PathRanges.{IsPathOf, RemovesDots}}

@@ -4,8 +4,8 @@ use Rattle.std.specs.{Borrow.{Bor}, Option.{option_copied}}
 use Rattle.percent_encoding.specs.Percent.{percent_decode}
 use Rattle.iref_grammar.specs.{Rules.{Text}, PathValue.{PathValue, read_path}, Texts.{is_empty}}
 use Rattle.iref_grammar.specs.ComponentTexts.{ComponentTexts, read_components}
-use Rattle.iref_model.specs.{NormalList.{normal_segments, staying_names}, PathKey.{path_key}, Relative.{have_same_path}}
-use Rattle.iref_model.proofs.PathKeyLemmas.{tie_from_decides}
+use Rattle.iref_grammar.specs.{NormalList.{normal_segments, staying_names}, PathKey.{path_key}, Relative.{have_same_path}}
+use Rattle.iref_grammar.proofs.PathKeyLemmas.{tie_from_decides}
 
 pub none-copied : (o : Option (Bor Text)) → is_none o ≡ is_none (option_copied o)
 none-copied o = grind arith

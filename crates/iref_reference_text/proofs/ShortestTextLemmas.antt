@@ -8,11 +8,11 @@ use Rattle.iref_grammar.specs.{Authority.{read_authority, spell_authority}, Path
 use Rattle.iref_grammar.specs.ComponentTexts.{ComponentTexts, read_components, spell_components}
 use Rattle.iref_grammar.specs.{Reference.{ReferenceValue, spell}, Contexts.{alone}}
 use Rattle.iref_grammar.proofs.{ComponentLemmas.{authority_spelled}, PathLemmas.{read_path-reads}}
-use Rattle.iref_model.proofs.MappedMarkLemmas.{is_some-map}
-use Rattle.iref_model.specs.{Guard.{guarded}, NormalList.{normal}, PathSteps.{normalized}, Relative.{with_only_path}}
-use Rattle.iref_model.specs.Relativized.{authority_text, empty_path, fragment_alone, relative_path, same_scheme_text, same_authority_text, same_path_text, same_query_text}
-use Rattle.iref_model.specs.RelativizedChoice.{chosen, shorter_of, with_a_path, with_own_scheme, with_whole_path}
-use Rattle.iref_model.specs.RelativizedTests.{is_reachable, is_settled}
+use Rattle.iref_grammar.proofs.MappedMarkLemmas.{is_some-map}
+use Rattle.iref_grammar.specs.{Guard.{guarded}, NormalList.{normal}, PathSteps.{normalized}, Relative.{with_only_path}}
+use Rattle.iref_grammar.specs.Relativized.{authority_text, empty_path, fragment_alone, relative_path, same_scheme_text, same_authority_text, same_path_text, same_query_text}
+use Rattle.iref_grammar.specs.RelativizedChoice.{chosen, shorter_of, with_a_path, with_own_scheme, with_whole_path}
+use Rattle.iref_grammar.specs.RelativizedTests.{is_reachable, is_settled}
 use Rattle.iref_reference_text.proofs.MeasuredLemmas.{spelled_texts}
 use Rattle.iref_reference_text.specs.ShortestTexts.{same_part, shared_of, shares_authority, shares_path, shares_query, shares_scheme, shorter_texts}
 use Rattle.iref_reference_text.specs.declared.relativized.Shared.{Shared}

@@ -3,7 +3,7 @@ use Rattle.std.specs.Prelude.{◌≡◌, ℕ, true, [], ◌∷◌, ◌++◌, cod
 use Rattle.iref_grammar.specs.{declared.context.PathContext.{PathContext}, Rules.{Text}, Grammar.{colon}}
 use Rattle.iref_grammar.specs.{Texts.{part_then, then_part}, ComponentTexts.{ComponentTexts}}
 use Rattle.iref_grammar.specs.{PathValue.{read_path, spell_path}, Reference.{ReferenceValue, spell}}
-use Rattle.iref_model.specs.PathSteps.{normalized}
+use Rattle.iref_grammar.specs.PathSteps.{normalized}
 use Rattle.iref_path.specs.MergedPaths.{path_after}
 use Rattle.iref_reference_text.specs.{ComponentLengths.{lengths_of}, declared.lengths.Lengths.{Lengths}}
 

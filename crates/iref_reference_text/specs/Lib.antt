@@ -10,10 +10,10 @@ pub use Rattle.iref_grammar.specs.Reference.{context_of, hierarchy, is_readable,
 pub use Rattle.iref_grammar.specs.Rules.{InUtf8, Text}
 pub use Rattle.iref_grammar.specs.Tests.{is_fragment, is_path, is_query, is_scheme, none_or}
 pub use Rattle.iref_grammar.specs.Texts.{before, part_then, then_part}
-pub use Rattle.iref_model.specs.ComponentSteps.{with_authority, with_fragment, with_path, with_query, with_scheme}
-pub use Rattle.iref_model.specs.Guard.{guarded}
-pub use Rattle.iref_model.specs.PathFunctions.{directory_text}
-pub use Rattle.iref_model.specs.ReferenceParts.{base_of}
+pub use Rattle.iref_grammar.specs.ComponentSteps.{with_authority, with_fragment, with_path, with_query, with_scheme}
+pub use Rattle.iref_grammar.specs.Guard.{guarded}
+pub use Rattle.iref_grammar.specs.PathFunctions.{directory_text}
+pub use Rattle.iref_grammar.specs.ReferenceParts.{base_of}
 pub use Rattle.iref_parse.specs.ReferenceSlices.{texts_of, value_of}
 pub use Rattle.iref_component.specs.Makers.{Parses}
 pub use Rattle.iref_reference_text.specs.ComponentLengths.{context_by, HasLengths, lengths_of, placed, total_length, with_mark}

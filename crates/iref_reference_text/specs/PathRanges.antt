@@ -5,7 +5,7 @@ use Rattle.iref_grammar.specs.{declared.context.PathContext.{PathContext}, Chara
 use Rattle.iref_grammar.specs.{PathValue.{spell_path}, Reference.{ReferenceValue, read_reference, is_reference}}
 use Rattle.iref_grammar.specs.ComponentOffsets.{offsets_of}
 use Rattle.iref_grammar.proofs.RangeLemmas.{path_inside}
-use Rattle.iref_model.specs.DotSegments.{RemovesDotSegments}
+use Rattle.iref_grammar.specs.DotSegments.{RemovesDotSegments}
 
 -- the path of the reference that the text spells, in its context
 abbrev pub IsPathOf : CharTests → Text → PathContext → ℕ → ℕ → Type 0

@@ -2,7 +2,7 @@
 use Rattle.std.specs.Prelude.{Bool, not, ◌&&◌, ◌||◌, None, is_some}
 use Rattle.iref_grammar.specs.{Rules.{Text}, Texts.{is_empty}, ComponentTexts.{ComponentTexts}}
 use Rattle.iref_grammar.specs.Reference.{ReferenceValue}
-use Rattle.iref_model.specs.{NormalList.{normal_segments}, Relative.{have_same_authority, schemes_agree}}
+use Rattle.iref_grammar.specs.{NormalList.{normal_segments}, Relative.{have_same_authority, schemes_agree}}
 
 -- a reference to the target may leave out scheme and authority
 abbrev pub agree : ReferenceValue → ReferenceValue → Bool

@@ -1,7 +1,7 @@
 -- What the tests of a shortest reference decide.
 use Rattle.std.specs.Prelude.{Bool, false, true, Option, None, Some, bytes_eq, length, nat_lt, if◌then◌else◌}
 use Rattle.iref_grammar.specs.{Rules.{Text}, Reference.{ReferenceValue}, ComponentTexts.{ComponentTexts}}
-use Rattle.iref_model.specs.Relativized.{same_scheme_text, same_authority_text, same_path_text, same_query_text}
+use Rattle.iref_grammar.specs.Relativized.{same_scheme_text, same_authority_text, same_path_text, same_query_text}
 use Rattle.iref_reference_text.specs.{MeasuredReferences.{spell_texts}, declared.relativized.Shared.{Shared}}
 use Rattle.iref_reference_text.specs.declared.relativized.Shared.TheVariants.{Nothing, Scheme, Authority, Path, Query}
 

@@ -2,7 +2,7 @@
 //! (RFC 3986 sections 5.2.2 and 5.3).
 ghost use Rattle.std.specs.Prelude.{◌≡◌, ◌≢◌, ◌+◌, ◌||◌, ◌++◌, [], IfOk, IfSome, is_some, length, true};
 ghost use Rattle.iref_grammar.specs.{AreComponents, is_empty, read_path, Reference.{context_of}};
-ghost use Rattle.iref_model.specs.{fits, read_reference, resolved};
+ghost use Rattle.iref_grammar.specs.{fits, read_reference, resolved};
 ghost use Rattle.iref_parse.specs.{texts_of, value_of};
 ghost use Rattle.iref_reference_text.specs.{ComponentLengths.{lengths_of_texts}, Rows.{has_path, row_of}};
 ghost use Rattle.iref_reference_text.specs.Fronts.{IsAround, IsSpelled, StaysBefore};

@@ -1,7 +1,7 @@
 //! The base of a reference: its text up to the end of the path's directory (RFC 3986 section
 //! 5.2.3).
 ghost use Rattle.std.specs.Prelude.{◌≡◌, true};
-ghost use Rattle.iref_model.specs.{read_reference, spell, base_of};
+ghost use Rattle.iref_grammar.specs.{read_reference, spell, base_of};
 ghost use Rattle.iref_parse.specs.{texts_of, value_of, AreComponents, is_reference};
 ghost use Rattle.iref_reference_text.specs.ComponentLengths.{lengths_of_texts};
 

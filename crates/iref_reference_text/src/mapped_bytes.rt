@@ -1,7 +1,7 @@
 //! Bytes of IRIs mapped to those of URIs (RFC 3987 section 3.1): into a new text, and in place.
 ghost use Rattle.std.specs.Prelude.{◌≡◌, ◌+◌, ◌≤◌, ◌++◌, length, take, drop, IfOk, OnOk, OnErr};
 ghost use Rattle.std.specs.String.{string_bytes};
-ghost use Rattle.iref_model.specs.Mapping.{mapped_byte, mapped, count_escaped};
+ghost use Rattle.iref_grammar.specs.Mapping.{mapped_byte, mapped, count_escaped};
 
 use percent_encoding::percent_encode_byte;
 use std::alloc::{AllocError, Global};
@@ -46,7 +46,7 @@ pub fn mapped(alloc: Global, text: &str) -> Result<String, AllocError>
 }
 
 // Writes the mapping of a byte so that it ends before `end`, and says where it begins.
-#[tactic(auto, using(iref_model::proofs::MappedLemmas::lengths))]
+#[tactic(auto, using(iref_grammar::proofs::MappedLemmas::lengths))]
 fn put_mapped(buffer: &mut [u8], end: usize, byte: u8) -> usize
     requires room { length (mapped_byte byte) ≤ end }
     requires within { end ≤ length buffer.old }

@@ -4,7 +4,7 @@ ghost use Rattle.std.specs.{Fmt.{WritesOnOk}, Option.{option_copied}};
 ghost use Rattle.std.specs.Prelude.{◌≡◌, ◌+◌, ◌*◌, ◌<◌, ◌^◌, ◌++◌, [], ◌∷◌, IfOk, is_some, length, true};
 ghost use Rattle.iref_grammar.specs.{ComponentTexts.{spell_components}, Reference.{context_of}, Grammar.{colon}};
 ghost use Rattle.iref_grammar.specs.Texts.{part_then, then_part};
-ghost use Rattle.iref_model.specs.{fits, resolved};
+ghost use Rattle.iref_grammar.specs.{fits, resolved};
 ghost use Rattle.iref_parse.specs.ReferenceSlices.{value_of};
 ghost use Rattle.iref_reference_text.specs.ComponentLengths.{lengths_of_texts};
 ghost use Rattle.iref_reference_text.specs.MeasuredReferences.{IsReady, spell_texts, measured_components};

@@ -1,6 +1,6 @@
 //! What leads from a base to a target, the way back from resolution (RFC 3986 section 5.2).
 ghost use Rattle.std.specs.Prelude.{◌≡◌, ◌+◌, ◌*◌, ◌<◌, ◌^◌, length};
-ghost use Rattle.iref_model.specs.{relative_to, Relative.{is_same_place}};
+ghost use Rattle.iref_grammar.specs.{relative_to, Relative.{is_same_place}};
 ghost use Rattle.iref_parse.specs.{AreComponents, spell_components, texts_of, value_of};
 ghost use Rattle.iref_path.specs.MeasuredPaths.{IsMeasured, measured_text};
 ghost use Rattle.iref_reference_text.specs.Relatives.{after_path, agree, may_end_here};
@@ -18,7 +18,7 @@ use iref_path::segments::split_root;
 
 // Whether a reference to the target may leave out scheme and authority: they are equal, or the target
 // takes its scheme from any base.
-#[tactic(auto, using(iref_model::proofs::PartTieLemmas::parts_tested), unfolding(iref_model::specs::Key::key))]
+#[tactic(auto, using(iref_grammar::proofs::PartTieLemmas::parts_tested), unfolding(iref_grammar::specs::Key::key))]
 fn agree<C: CharSet>(target: ReferenceSlices<'_>, base: ReferenceSlices<'_>) -> bool
     requires target { AreComponents C.tests (texts_of target) }
     requires base { AreComponents C.tests (texts_of base) }
@@ -60,7 +60,7 @@ fn is_same_place(target: ReferenceSlices<'_>, base: ReferenceSlices<'_>) -> bool
 impl<'a> MeasuredReference<'a> {
     /// What leads from the base to the target: the empty path, steps from the base's directory, or
     /// the target whole.
-    #[tactic(auto, unfolding(iref_model::specs::Relative::relative_to, iref_grammar::specs::PathValue::spell_path))]
+    #[tactic(auto, unfolding(iref_grammar::specs::Relative::relative_to, iref_grammar::specs::PathValue::spell_path))]
     pub fn relative_to<C: CharSet>(target: ReferenceSlices<'a>, base: ReferenceSlices<'a>) -> Self
         requires target { AreComponents C.tests (texts_of target) }
         requires base { AreComponents C.tests (texts_of base) }

@@ -6,9 +6,9 @@ ghost use Rattle.iref_grammar.specs.{Contexts.{fits}, Reference.{ReferenceValue,
 ghost use Rattle.iref_grammar.specs.{spell_components, spell_path};
 ghost use Rattle.iref_parse.specs.{value_of};
 ghost use Rattle.iref_path.specs.MeasuredPaths.{IsMeasured, measured_text};
-ghost use Rattle.iref_model.specs.Relativized.{fragment_alone, relative_path};
-ghost use Rattle.iref_model.specs.RelativizedChoice.{chosen, with_a_path, with_own_scheme, with_whole_path};
-ghost use Rattle.iref_model.specs.RelativizedTests.{is_reachable, is_settled};
+ghost use Rattle.iref_grammar.specs.Relativized.{fragment_alone, relative_path};
+ghost use Rattle.iref_grammar.specs.RelativizedChoice.{chosen, with_a_path, with_own_scheme, with_whole_path};
+ghost use Rattle.iref_grammar.specs.RelativizedTests.{is_reachable, is_settled};
 ghost use Rattle.iref_reference_text.specs.MeasuredReferences.{IsReady, measured_components};
 ghost use Rattle.iref_reference_text.specs.ShortestTexts.{same_part, shared_of, shares_authority, shares_path};
 ghost use Rattle.iref_reference_text.specs.ShortestTexts.{shares_query, shares_scheme, shorter_texts};

@@ -1,6 +1,6 @@
 //! Edits of a list, one after the other, up to the first that cannot be done.
 ghost use Rattle.std.specs.Prelude.{◌≡◌, ◌≤◌, ◌<◌, true, length, map, take, IfNone, IfOk, IfSome, OnOk};
-ghost use Rattle.iref_model.specs.Edits.{edited, edited_uri};
+ghost use Rattle.iref_grammar.specs.Edits.{edited, edited_uri};
 ghost use Rattle.iref_component.specs.{with_fragment, with_query};
 ghost use Rattle.iref_reference.specs.References.{reference_buf_text, reference_buf_value};
 ghost use Rattle.iref.specs.EditAnswers.{AppliesEdit, AppliesTo, AreDone, HasNormalPath, StopsAt, edited_in};
@@ -29,7 +29,7 @@ const FEW: usize = 8;
 pub type Applied = Result<(), (usize, EditFault)>;
 
 // Does one edit, or changes nothing.
-#[tactic(auto, using(crate::proofs::EditListLemmas::done_in, crate::proofs::EditListLemmas::part_done_in), unfolding(iref_model::specs::Edits::edited))]
+#[tactic(auto, using(crate::proofs::EditListLemmas::done_in, crate::proofs::EditListLemmas::part_done_in), unfolding(iref_grammar::specs::Edits::edited))]
 #[inline(always)]
 fn apply<R: SetsScheme, C: CharSet>(
     reference: &mut ReferenceBuf<R, C>,

@@ -1,6 +1,6 @@
 //! Edits of the scheme, which a URI cannot lose.
 ghost use Rattle.std.specs.Prelude.{option_map};
-ghost use Rattle.iref_model.specs.Edits.{SetScheme};
+ghost use Rattle.iref_grammar.specs.Edits.{SetScheme};
 ghost use Rattle.iref_reference.specs.{text_of, reference_buf_text};
 ghost use Rattle.iref.specs.EditAnswers.{AppliesEdit, edited_in};
 
@@ -24,7 +24,7 @@ pub trait SetsScheme: HeldRule {
 }
 
 impl SetsScheme for ReferenceRule {
-    #[tactic(auto, unfolding(iref_model::specs::Edits::edited))]
+    #[tactic(auto, unfolding(iref_grammar::specs::Edits::edited))]
     fn set_scheme<C: CharSet>(
         reference: &mut UriRefBuf<C>,
         scheme: Option<Scheme<'_>>,
@@ -34,7 +34,7 @@ impl SetsScheme for ReferenceRule {
 }
 
 impl SetsScheme for UriRule {
-    #[tactic(auto, unfolding(iref_model::specs::Edits::edited, iref_model::specs::Edits::edited_uri))]
+    #[tactic(auto, unfolding(iref_grammar::specs::Edits::edited, iref_grammar::specs::Edits::edited_uri))]
     fn set_scheme<C: CharSet>(
         reference: &mut UriBuf<C>,
         scheme: Option<Scheme<'_>>,

@@ -1,7 +1,7 @@
 //! The `..` of a normal list that is read from its end (RFC 3986 section 5.2.4).
 
 ghost use Rattle.std.specs.Prelude.{◌≡◌, ◌<◌, ◌^◌, length};
-ghost use Rattle.iref_model.specs.{NormalList.{count_parents, kept_segments}, Relativized.{is_climb}};
+ghost use Rattle.iref_grammar.specs.{NormalList.{count_parents, kept_segments}, Relativized.{is_climb}};
 ghost use Rattle.iref_grammar.specs.PathValue.{is_one_empty};
 ghost use Rattle.iref_path.specs.{NormalItems.{IsSound, normal_left}, Pieces.{pieces_if_some}, Spelling.{each_closed}};
 ghost use Rattle.iref_path.specs.{ShortestPaths.{are_some_parents}, Stacks.{path_of}};

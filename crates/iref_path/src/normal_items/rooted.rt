@@ -2,7 +2,7 @@
 //! counted before (RFC 3986 section 5.2.4).
 
 ghost use Rattle.std.specs.{Iterator.{YieldsLastBy}, Prelude.{◌≡◌, ◌<◌, ◌^◌, length, true}};
-ghost use Rattle.iref_model.specs.NormalList.{normal_segments, without_lone_empty};
+ghost use Rattle.iref_grammar.specs.NormalList.{normal_segments, without_lone_empty};
 ghost use Rattle.iref_path.specs.{Pieces.{pieces_if_some, text_at}, Spelling.{each_closed}, Stacks.{path_of}};
 
 use super::{NormalItems, ends_in_dots};

@@ -3,8 +3,8 @@
 
 ghost use Rattle.std.specs.Prelude.{◌≡◌, ◌+◌, ◌<◌, ◌^◌, ◌∷◌, ◌*◌, ◌++◌, List, [], codes, length, replicate, true};
 ghost use Rattle.iref_grammar.specs.Rules.{Text};
-ghost use Rattle.iref_model.specs.NormalList.{normal_segments, without_lone_empty};
-ghost use Rattle.iref_model.specs.NormalReading.{closing, open_before, staying_before};
+ghost use Rattle.iref_grammar.specs.NormalList.{normal_segments, without_lone_empty};
+ghost use Rattle.iref_grammar.specs.NormalReading.{closing, open_before, staying_before};
 ghost use Rattle.iref_path.specs.{Pieces.{pieces_if_some}, Spelling.{each_closed}, Stacks.{Completes, path_of}};
 
 use super::{NormalItems, ends_in_dots, leading_parents};

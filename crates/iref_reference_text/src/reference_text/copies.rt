@@ -3,7 +3,7 @@
 //! 5.3, RFC 3987 section 3.1).
 ghost use Rattle.std.specs.{Char.{is_ascii}, List.{list_all}, String.{string_bytes}};
 ghost use Rattle.std.specs.Prelude.{◌≡◌, ◌++◌, true, [], ◌∷◌, None, Some, IfOk, IfErr, IsOk, length};
-ghost use Rattle.iref_model.specs.Mapping.{mapped};
+ghost use Rattle.iref_grammar.specs.Mapping.{mapped};
 ghost use Rattle.iref_component.specs.{colon, is_scheme, with_scheme};
 ghost use Rattle.iref_reference_text.specs.{HasLengths, with_fragment, with_query, Steps.{IsStep}};
 ghost use Rattle.iref_reference_text.specs.MeasuredReferences.{IsComposed, spell_texts, measured_components};
@@ -87,7 +87,7 @@ impl<R: HeldRule, C: CharSet> ReferenceText<R, C> {
 
     /// The same reference under a scheme, with no copy where the buffer has room, or the reference
     /// as it was.
-    #[tactic(auto, unfolding(iref_model::specs::ComponentSteps::with_scheme))]
+    #[tactic(auto, unfolding(iref_grammar::specs::ComponentSteps::with_scheme))]
     pub fn into_with_scheme<S: HeldRule>(self, scheme: &str) -> Result<ReferenceText<S, C>, Self>
         requires scheme { is_scheme scheme.now ≡ true }
         requires allowed { R.allows_scheme (Some scheme.now) ≡ true }

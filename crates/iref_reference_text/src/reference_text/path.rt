@@ -1,7 +1,7 @@
 //! The path of a reference's text as a part that is edited in place, and as a normal one (RFC 3986
 //! sections 3.3 and 5.2.4).
 ghost use Rattle.std.specs.Prelude.{◌≡◌, ◌||◌, ◌&&◌, not, true, OnErr, OnOk};
-ghost use Rattle.iref_model.specs.ComponentSteps.{with_new_normal_path};
+ghost use Rattle.iref_grammar.specs.ComponentSteps.{with_new_normal_path};
 ghost use Rattle.iref_component.specs.{read_path, read_reference, spell, is_path, is_empty, with_path};
 ghost use Rattle.iref_reference_text.specs.PathRanges.{IsPathOf, one_path, path_is_within, RemovesDots};
 

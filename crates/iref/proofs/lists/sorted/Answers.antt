@@ -1,6 +1,6 @@
 use Rattle.std.proofs.Common.{◌≡◌, ap, map, ◌∙◌}
 use Rattle.std.specs.{List.Sorted.{IsPermutation, IsStable}, Ordering.{on}}
-use Rattle.iref_model.specs.Key.{key_cmp}
+use Rattle.iref_grammar.specs.Key.{key_cmp}
 use Rattle.iref_reference.specs.References.{reference_text}
 use Rattle.iref.specs.Lists.{key_of_text}
 use Rattle.iref.proofs.SortedLemmas.{of_references}

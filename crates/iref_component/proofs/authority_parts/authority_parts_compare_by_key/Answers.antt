@@ -2,7 +2,7 @@ use Rattle.std.proofs.{Common.{ap, sym, ◌∙◌, ◌++◌, rules}, lemmas.List
 use Rattle.std.specs.Cmp.Rules.{comparing}
 use Rattle.percent_encoding.specs.Percent.{percent_decode}
 use Rattle.iref_component.specs.Components.{text_of}
-use Rattle.iref_model.proofs.TieLemmas.{texts_tie, options_tie_by, options_tie_through, both_tie_by, feeds_by, feeds_through}
+use Rattle.iref_grammar.proofs.TieLemmas.{texts_tie, options_tie_by, options_tie_through, both_tie_by, feeds_by, feeds_through}
 use Rattle.iref_canonical.specs.HashedParts.{fed_part}
 use Rattle.iref_canonical.proofs.HashedPartLemmas.{authority-delimits}
 use Rattle.iref_component.proofs.authority_parts.authority_parts_compare_by_key.Goals as goal

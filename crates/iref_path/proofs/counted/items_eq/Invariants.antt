@@ -1,5 +1,5 @@
 use Rattle.std.proofs.Common.{◌≡◌, length}
-use Rattle.iref_model.specs.CountedEquality.{items_compared}
+use Rattle.iref_grammar.specs.CountedEquality.{items_compared}
 use Rattle.iref_path.specs.{CountedPath.{IsCountable, items_unread, segments_of}, CountedSegments.{IsCounted}}
 use Rattle.iref_path.proofs.counted.items_eq.Given as goal
 

@@ -2,7 +2,7 @@ use Rattle.std.proofs.Common.{sym, ap, ◌∙◌}
 use Rattle.std.specs.Cmp.Lexicographic.{same_text, other_text}
 use Rattle.iref_grammar.specs.Tests.{is_path}
 use Rattle.iref_path.proofs.SlashLemmas.{cut_last}
-use Rattle.iref_model.proofs.PathGrammarLemmas.{path_parts}
+use Rattle.iref_grammar.proofs.PathGrammarLemmas.{path_parts}
 use Rattle.iref_path.proofs.PathTextLemmas.{parent-slice, parent-guarded, parent-root, nothing, something}
 use Rattle.iref_path.proofs.directory.parent_text.Goals as goal
 

@@ -1,5 +1,5 @@
 use Rattle.std.proofs.Common.{arith}
-use Rattle.iref_model.specs.NormalReading.{staying_before}
+use Rattle.iref_grammar.specs.NormalReading.{staying_before}
 use Rattle.iref_path.specs.{MergedPaths.{merged_list, merged_path}, NormalItems.{normal_left}}
 use Rattle.iref_path.proofs.{MergedPathLemmas.{ends-both}, NormalItemsLemmas.{all_last, one_empty, parts-whole}}
 use Rattle.iref_path.proofs.normal_items.survey_items.Goals as goal

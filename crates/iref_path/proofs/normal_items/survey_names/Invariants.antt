@@ -1,7 +1,7 @@
 use Rattle.std.proofs.Common.{◌≡◌, ◌+◌, ◌≤◌, [], length}
 use denote.Shadow.{shadow}
 use denote.Text.{Utf8}
-use Rattle.iref_model.specs.NormalReading.{open_before, staying_before}
+use Rattle.iref_grammar.specs.NormalReading.{open_before, staying_before}
 use Rattle.iref_path.specs.MergedPaths.{merged_list}
 use Rattle.iref_path.specs.NormalItems.{first_or, IsReadable, names_staying, open_at_start, to_read}
 use Rattle.iref_path.specs.Spelling.{each_closed}

@@ -1,6 +1,6 @@
 use Rattle.std.proofs.Common.{arith}
 use Rattle.iref_grammar.specs.Grammar.{slash}
-use Rattle.iref_model.proofs.PieceLemmas.{some_piece}
+use Rattle.iref_grammar.proofs.PieceLemmas.{some_piece}
 use Rattle.iref_path.proofs.order.compare_segments.Goals as goal
 
 pub returns-in-Some-None : goal.returns-in-Some-None

@@ -3,7 +3,7 @@ use Rattle.std.specs.List.{list_any}
 use denote.Shadow.{shadow}
 use denote.Text.{Utf8}
 use Rattle.iref_grammar.specs.{Grammar.{slash}, Texts.{pieces_at}}
-use Rattle.iref_model.specs.NormalList.{is_dot_dot}
+use Rattle.iref_grammar.specs.NormalList.{is_dot_dot}
 use Rattle.iref_path.specs.Named.{named}
 use Rattle.iref_path.proofs.order.strip_dots.Given as goal
 

@@ -1,6 +1,6 @@
 use Rattle.std.proofs.{Common.{◌∙◌, ap, arith, bytes_eq, length, List, false}, lemmas.Bool.Decides.{nat_tests}}
 use Rattle.iref_grammar.specs.{Rules.{Text}, Contexts.{alone}, PathValue.{read_path, spell_path}}
-use Rattle.iref_model.specs.{Guard.{guarded}, NormalList.{count_parents, normal_segments}, Relativized.{shortened}}
+use Rattle.iref_grammar.specs.{Guard.{guarded}, NormalList.{count_parents, normal_segments}, Relativized.{shortened}}
 use Rattle.iref_path.specs.{Spelling.{each_closed}, StepsBetween.{steps_with}}
 use Rattle.iref_path.proofs.SpellLemmas.{normal_size-text}
 use Rattle.iref_path.proofs.StepsBetweenLemmas.{parents-with_last, size-with_last, steps-whole}

@@ -1,6 +1,6 @@
 use Rattle.std.proofs.Common.{◌≡◌, ◌∙◌, true, false, ap, arith, length, List, sym}
 use Rattle.iref_grammar.specs.{Rules.{Text}, Contexts.{alone}, PathValue.{spell_path}}
-use Rattle.iref_model.specs.{Guard.{guarded}, Relativized.{is_climb}}
+use Rattle.iref_grammar.specs.{Guard.{guarded}, Relativized.{is_climb}}
 use Rattle.iref_path.specs.{NormalItems.{normal_left}, Spelling.{each_closed}}
 use Rattle.iref_path.proofs.{StepsBetweenLemmas.{front-take, size-front}, TextStepLemmas.{shortened-climb}}
 use Rattle.iref_path.proofs.relativized.of_item_steps.Goals as goal

@@ -1,5 +1,5 @@
 use Rattle.std.proofs.Common.{◌≡◌, ◌≤◌, ◌+◌, ◌++◌, drop, length}
-use Rattle.iref_model.specs.NormalReading.{open_before, staying_before}
+use Rattle.iref_grammar.specs.NormalReading.{open_before, staying_before}
 use Rattle.iref_path.specs.{Rewriting.{pieces_before}, Spelling.{each_closed}}
 use Rattle.iref_path.proofs.rewriting.move_names.Given as goal
 

@@ -5,7 +5,7 @@ use Rattle.iref_path.proofs.{StepValueLemmas.{steps_by, closed-step}, SlashLemma
 use Rattle.iref_path.proofs.StepTextLemmas.{closed_spelled, put_to_end, to_end}
 use Rattle.iref_path.proofs.steps.closed.Goals.{then-has_segments, else-has_segments}
 use Rattle.iref_grammar.proofs.PathLemmas.{read_path-reads}
-use Rattle.iref_model.specs.PathSteps.{closed_path}
+use Rattle.iref_grammar.specs.PathSteps.{closed_path}
 use Rattle.iref_path.proofs.steps.closed.Goals as goal
 
 pub returns : goal.returns

@@ -1,5 +1,5 @@
 use Rattle.std.proofs.{Common.{refl, ◌∙◌}, lemmas.List.{append-nil}, lemmas.Str.{IsCharBoundary-start}}
-use Rattle.iref_model.proofs.PathGrammarLemmas.{segments_of_path}
+use Rattle.iref_grammar.proofs.PathGrammarLemmas.{segments_of_path}
 use Rattle.iref_path.proofs.{StepTextLemmas.{put_to_end, to_end}, StepValueLemmas.{steps_by, replaced-step}}
 use Rattle.iref_path.proofs.steps.replaced.Goals as goal
 

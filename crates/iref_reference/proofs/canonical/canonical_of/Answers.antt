@@ -1,6 +1,6 @@
 use Rattle.std.proofs.Common.{◌≡◌, true, ap, sym, subst, ◌∙◌}
 use Rattle.iref_grammar.specs.{Characters.{uri_chars}, Reference.{IsReadable, read_reference}, Rules.{Text}}
-use Rattle.iref_model.specs.Key.{key}
+use Rattle.iref_grammar.specs.Key.{key}
 use Rattle.iref_canonical.specs.Canonical.{canonical_text}
 use Rattle.iref_reference.proofs.CanonicalLemmas.{in_rule-canonical, key-canonical_text, readable-reference}
 use Rattle.iref_reference.proofs.canonical.canonical_of.Given.{Over}

@@ -1,6 +1,6 @@
 use Rattle.std.proofs.Common.{◌∙◌}
 use Rattle.std.specs.Ordering.{eq_by_cmp}
-use Rattle.iref_model.specs.Key.{key, key_cmp}
+use Rattle.iref_grammar.specs.Key.{key, key_cmp}
 use Rattle.iref_reference.proofs.PartLemmas.{parts_equal}
 use Rattle.iref_reference.proofs.comparison.have_equal_parts.Goals as goal
 

@@ -1,7 +1,7 @@
 use Rattle.std.proofs.{Common.{ap, rules, Some}, lemmas.Option.{same_Some}}
 use Rattle.std.specs.{Str.{str_to_ascii_lowercase}, Cmp.Rules.{comparing}}
-use Rattle.iref_model.specs.Key.{key, key_cmp}
-use Rattle.iref_model.proofs.{TieLemmas.{texts_tie}, PartTieLemmas.{lower_case_tie, parts_tie}}
+use Rattle.iref_grammar.specs.Key.{key, key_cmp}
+use Rattle.iref_grammar.proofs.{TieLemmas.{texts_tie}, PartTieLemmas.{lower_case_tie, parts_tie}}
 use Rattle.iref_canonical.proofs.HashedPartLemmas.{components-delimit}
 use Rattle.iref_component.specs.Components.{text_of}
 use Rattle.iref_reference.proofs.comparison.parts_compare_by_key.Goals as goal

@@ -1,5 +1,5 @@
 use Rattle.std.proofs.Common.{refl}
-use Rattle.iref_model.proofs.TieLemmas.{references_tie}
+use Rattle.iref_grammar.proofs.TieLemmas.{references_tie}
 use Rattle.iref_canonical.proofs.HashedLemmas.{reference-delimits}
 use Rattle.iref_reference.specs.References.{key_of_reference}
 use Rattle.iref_reference.proofs.comparison.references_compare_by_key.Goals as goal

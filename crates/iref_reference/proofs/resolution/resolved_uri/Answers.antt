@@ -1,5 +1,5 @@
 use Rattle.iref_grammar.proofs.ComponentLemmas.{Decides-AreComponents, reference_if_uri}
-use Rattle.iref_model.specs.Resolution.{resolved}
+use Rattle.iref_grammar.specs.Resolution.{resolved}
 use Rattle.iref_grammar.specs.Reference.{read_reference}
 use Rattle.iref_parse.specs.ReferenceSlices.{texts_of, value_of}
 use Rattle.iref_reference_text.proofs.{LeadLemmas.{readable-fits}, MeasuredLemmas.{spells_same}}

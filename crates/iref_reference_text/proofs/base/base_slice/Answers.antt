@@ -3,7 +3,7 @@ use Rattle.std.proofs.{lemmas.Str.{IsUtf8-append, IsCharBoundary-at_seam}, lemma
 use Rattle.iref_grammar.specs.Reference.{spell}
 use Rattle.iref_grammar.proofs.ReferenceCutLemmas.{read_reference-spelled}
 use Rattle.iref_parse.specs.ReferenceSlices.{texts_of, value_of}
-use Rattle.iref_model.specs.ReferenceParts.{base_of}
+use Rattle.iref_grammar.specs.ReferenceParts.{base_of}
 use Rattle.iref_reference_text.proofs.BaseLemmas.{base-joins, base-ends, tail, tail_utf8}
 use Rattle.iref_path.specs.Pieces.{pieces_if_some}
 use Rattle.iref_reference_text.proofs.base.base_slice.Goals as goal

@@ -1,6 +1,6 @@
 use Rattle.std.proofs.Common.{◌≡◌, ◌+◌}
 use Rattle.std.specs.Slice.Iter.{chunks_rest, chunks_size}
-use Rattle.iref_model.specs.Mapping.{count_escaped}
+use Rattle.iref_grammar.specs.Mapping.{count_escaped}
 use Rattle.iref_reference_text.proofs.mapped_bytes.count_escaped.Given as goal
 
 -- what is counted, and what is left to count

@@ -2,8 +2,8 @@ use Rattle.std.proofs.Common.{◌≡◌, ℕ, ◌+◌, ◌*◌, ◌≤◌, ◌++
 use Rattle.std.proofs.{lemmas.Grind.{common_steps}, Math.ListN.{drop_of_length-le}, lemmas.List.{append-nil}}
 use Rattle.std.proofs.Math.Seq.{take-append_seam}
 use Rattle.iref_grammar.specs.Rules.{Text}
-use Rattle.iref_model.specs.Mapping.{mapped, count_escaped}
-use Rattle.iref_model.proofs.MappedLemmas.{length-mapped}
+use Rattle.iref_grammar.specs.Mapping.{mapped, count_escaped}
+use Rattle.iref_grammar.proofs.MappedLemmas.{length-mapped}
 use Rattle.iref_reference_text.proofs.mapped_bytes.map_in_place.Goals as goal
 
 all_taken : (xs : Text) (n : ℕ) → length xs ≤ n → take n xs ≡ xs

@@ -1,5 +1,5 @@
 use Rattle.std.proofs.Common.{◌+◌, ◌++◌, length, take, drop, ap, sym, ◌∙◌, arith}
-use Rattle.iref_model.specs.Mapping.{mapped_byte}
+use Rattle.iref_grammar.specs.Mapping.{mapped_byte}
 use Rattle.iref_reference_text.proofs.HalfMappedLemmas.{half_mapped_none, half_mapped_some, half_mapped_all, half_mapped_more, same_byte, step_index, step_within}
 use Rattle.iref_reference_text.proofs.mapped_bytes.map_to_the_end.Goals as goal
 

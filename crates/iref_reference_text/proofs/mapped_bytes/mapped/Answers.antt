@@ -3,8 +3,8 @@ use Rattle.std.proofs.{lemmas.List.Sums.{AllPass-from_list_all}, lemmas.Str.{IsU
 use Rattle.std.proofs.lemmas.Str.Ascii.{IsAscii-from_all}
 use Rattle.std.specs.{Char.{is_ascii}, Str.{IsUtf8}}
 use Rattle.iref_grammar.specs.Rules.{Text}
-use Rattle.iref_model.specs.Mapping.{mapped}
-use Rattle.iref_model.proofs.MappedLemmas.{ascii-mapped}
+use Rattle.iref_grammar.specs.Mapping.{mapped}
+use Rattle.iref_grammar.proofs.MappedLemmas.{ascii-mapped}
 use Rattle.iref_reference_text.proofs.mapped_bytes.mapped.Goals as goal
 
 below_128 : (b : ℕ) → is_ascii b ≡ true → b < 128

@@ -3,8 +3,8 @@ use Rattle.std.proofs.{lemmas.Grind.{common_steps}, lemmas.List.{take_more_set, 
 use Rattle.std.specs.Char.{is_ascii}
 use Rattle.percent_encoding.specs.Percent.{percent_encode_byte}
 use Rattle.iref_grammar.specs.Rules.{Text}
-use Rattle.iref_model.specs.Mapping.{mapped_byte}
-use Rattle.iref_model.proofs.MappedLemmas.{mapped_byte-ascii, mapped_byte-above, length-escape}
+use Rattle.iref_grammar.specs.Mapping.{mapped_byte}
+use Rattle.iref_grammar.proofs.MappedLemmas.{mapped_byte-ascii, mapped_byte-above, length-escape}
 use Rattle.iref_reference_text.proofs.mapped_bytes.put_mapped.Goals as goal
 
 -- one byte written

@@ -1,6 +1,6 @@
 use Rattle.std.proofs.Common.{◌∙◌, ap, bytes_eq}
 use Rattle.iref_grammar.specs.PathValue.{read_path, spell_path}
-use Rattle.iref_model.specs.PathSteps.{normalized}
+use Rattle.iref_grammar.specs.PathSteps.{normalized}
 use Rattle.iref_parse.specs.ReferenceSlices.{texts_of}
 use Rattle.iref_reference_text.proofs.ShortestTextLemmas.{settled-text}
 use Rattle.iref_reference_text.proofs.relativized.is_settled_there.Goals as goal

@@ -1,7 +1,7 @@
 use Rattle.std.proofs.{Common.{◌≡◌, ◌∙◌, ◌&&◌, ap, arith, false, sym, true}, lemmas.Result.{IfOk-weaker}}
 use Rattle.iref_grammar.specs.{ComponentTexts.{spell_components}, PathValue.{spell_path}}
-use Rattle.iref_model.specs.{Relative.{with_only_path}, Relativized.{relative_path}}
-use Rattle.iref_model.specs.{RelativizedChoice.{with_whole_path}, RelativizedTests.{is_reachable}}
+use Rattle.iref_grammar.specs.{Relative.{with_only_path}, Relativized.{relative_path}}
+use Rattle.iref_grammar.specs.{RelativizedChoice.{with_whole_path}, RelativizedTests.{is_reachable}}
 use Rattle.iref_parse.specs.ReferenceSlices.{texts_of, value_of}
 use Rattle.iref_path.specs.MeasuredPaths.{measured_text}
 use Rattle.iref_reference_text.specs.{MeasuredReferences.{measured_components}, Relatives.{after_path}}

@@ -2,7 +2,7 @@ use Rattle.std.proofs.Common.{◌≡◌, ◌∙◌, ◌&&◌, ap, arith, false, 
 use Rattle.std.specs.Option.{option_copied}
 use Rattle.iref_grammar.proofs.ComponentLemmas.{is_some-copied}
 use Rattle.iref_grammar.specs.{Authority.{read_authority}, ComponentTexts.{ComponentTexts, spell_components}}
-use Rattle.iref_model.proofs.MappedMarkLemmas.{is_some-map}
+use Rattle.iref_grammar.proofs.MappedMarkLemmas.{is_some-map}
 use Rattle.iref_parse.specs.ReferenceSlices.{value_of}
 use Rattle.iref_reference_text.specs.ShortestTexts.{shared_of, shares_authority, shares_scheme}
 use Rattle.iref_reference_text.proofs.ShortestTextLemmas.{whole-authority, whole-own, whole-rooted}

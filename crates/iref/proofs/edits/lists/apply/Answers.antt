@@ -1,7 +1,7 @@
 use Rattle.std.proofs.Common.{◌≡◌, true, Ok, rules, refl, sym, ap, ◌∙◌, is_none}
 use Rattle.iref_component.specs.Components.{text_of}
 use Rattle.iref_grammar.specs.Reference.{read_reference}
-use Rattle.iref_model.specs.Edits.{drops_scheme, edited}
+use Rattle.iref_grammar.specs.Edits.{drops_scheme, edited}
 use Rattle.iref_reference.specs.References.{reference_buf_text}
 use Rattle.iref.specs.{EditAnswers.{is_authority_edit, is_path_edit}, EditSteps.{edit_step}}
 use Rattle.iref.proofs.EditListLemmas.{found_in, keeps_scheme, kept_in, refused_in}

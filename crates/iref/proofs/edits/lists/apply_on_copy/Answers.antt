@@ -1,5 +1,5 @@
 use Rattle.std.proofs.{Common.{◌≡◌, ◌∙◌, map, take, arith}, lemmas.List.Folds.{list_all-map}}
-use Rattle.iref_model.specs.ComponentSteps.{with_fragment, with_query}
+use Rattle.iref_grammar.specs.ComponentSteps.{with_fragment, with_query}
 use Rattle.iref_reference.specs.References.{reference_buf_value}
 use Rattle.iref.specs.{EditAnswers.{AreDone, edited_in, keeps_query_and_fragment}, EditSteps.{edit_step}}
 use Rattle.iref.proofs.{EditCopyLemmas.{done-completed, edited_in-completed}, EditListLemmas.{none_done}}

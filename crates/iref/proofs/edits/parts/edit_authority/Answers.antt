@@ -1,9 +1,9 @@
 use Rattle.std.proofs.Common.{refl, rules, option_map}
 use Rattle.iref_component.specs.Components.{text_of}
 use Rattle.iref_grammar.specs.Authority.{read_authority}
-use Rattle.iref_model.specs.{AuthoritySteps.{with_user_info, with_host, with_port}, PortNumbers.{port_text}}
-use Rattle.iref_model.specs.Edits.{edited}
-use Rattle.iref_model.proofs.ReferenceStepLemmas.{with_user_info-readable, with_host-readable, with_port-readable, with_whole_authority-readable}
+use Rattle.iref_grammar.specs.{AuthoritySteps.{with_user_info, with_host, with_port}, PortNumbers.{port_text}}
+use Rattle.iref_grammar.specs.Edits.{edited}
+use Rattle.iref_grammar.proofs.ReferenceStepLemmas.{with_user_info-readable, with_host-readable, with_port-readable, with_whole_authority-readable}
 use Rattle.iref.specs.EditSteps.{edit_step}
 use Rattle.iref.proofs.AuthorityEditLemmas.{authority_edit_done, authority_in_rule, view_in_rule}
 use Rattle.iref.proofs.PortTextLemmas.{numbers_are_ports}

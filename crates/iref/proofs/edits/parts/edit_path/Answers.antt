@@ -1,8 +1,8 @@
 use Rattle.std.proofs.Common.{Ok, refl, rules, sym, ◌∙◌}
 use Rattle.iref_component.specs.{Components.{text_of}, Paths.{path_value}}
 use Rattle.iref_grammar.proofs.PathTestLemmas.{is_path-segments}
-use Rattle.iref_model.specs.{PathSteps.{lazy_pushed, pushed, joined, popped, cleared, normalized}, Edits.{edited}}
-use Rattle.iref_model.proofs.ReferenceStepLemmas.{lazy_pushed-readable, pushed-readable, joined-readable, popped-readable, normalized-readable, cleared-readable}
+use Rattle.iref_grammar.specs.{PathSteps.{lazy_pushed, pushed, joined, popped, cleared, normalized}, Edits.{edited}}
+use Rattle.iref_grammar.proofs.ReferenceStepLemmas.{lazy_pushed-readable, pushed-readable, joined-readable, popped-readable, normalized-readable, cleared-readable}
 use Rattle.iref.specs.EditSteps.{edit_step}
 use Rattle.iref.proofs.EditLemmas.{path_edit_done}
 use Rattle.iref.proofs.edits.parts.edit_path.Goals as goal

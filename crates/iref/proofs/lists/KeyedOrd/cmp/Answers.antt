@@ -1,5 +1,5 @@
 use Rattle.std.proofs.Common.{◌≡◌, arith, ◌∙◌}
-use Rattle.iref_model.specs.Key.{key_cmp}
+use Rattle.iref_grammar.specs.Key.{key_cmp}
 use Rattle.iref_reference.specs.References.{key_of_reference}
 use Rattle.iref.proofs.TextOrderLemmas.{order_of_keys}
 use Rattle.iref.proofs.lists.KeyedOrd.cmp.Goals as goal

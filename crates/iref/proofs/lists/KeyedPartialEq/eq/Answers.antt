@@ -1,6 +1,6 @@
 use Rattle.std.proofs.{Common.{◌≡◌, ap, arith, sym, ◌∙◌}, lemmas.Map.Text.{is_eq-slice_cmp}}
 use Rattle.std.specs.Ordering.{is_eq}
-use Rattle.iref_model.specs.Key.{key_cmp}
+use Rattle.iref_grammar.specs.Key.{key_cmp}
 use Rattle.iref_reference.specs.References.{key_of_reference}
 use Rattle.iref.proofs.TextOrderLemmas.{order_of_keys}
 use Rattle.iref.proofs.lists.KeyedPartialEq.eq.Goals as goal

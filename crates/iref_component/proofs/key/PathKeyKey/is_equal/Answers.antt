@@ -1,4 +1,4 @@
-use Rattle.iref_model.proofs.PathKeyLemmas.{tie_from_decides}
+use Rattle.iref_grammar.proofs.PathKeyLemmas.{tie_from_decides}
 use Rattle.iref_component.proofs.key.PathKeyKey.is_equal.Goals as goal
 
 pub returns : goal.returns

@@ -1,5 +1,5 @@
 use Rattle.std.proofs.Common.{◌∙◌}
-use Rattle.iref_model.proofs.NormalGrammarLemmas.{normal_in_grammar}
+use Rattle.iref_grammar.proofs.NormalGrammarLemmas.{normal_in_grammar}
 use Rattle.iref_component.specs.NormalLeft.{left_of}
 use Rattle.iref_component.proofs.normal.NormalizedSegments.of_text.Goals as goal
 

@@ -1,4 +1,4 @@
-use Rattle.iref_model.proofs.PathGrammarLemmas.{segments_of_path}
+use Rattle.iref_grammar.proofs.PathGrammarLemmas.{segments_of_path}
 use Rattle.iref_component.proofs.path.Path+C.segments.Goals as goal
 
 pub of_text-requires : goal.of_text-requires

@@ -1,8 +1,8 @@
 use Rattle.std.proofs.Common.{rules, ◌≡◌, ap, ◌∙◌}
 use Rattle.iref_grammar.specs.Contexts.{alone}
-use Rattle.iref_model.specs.PathKey.{path_key}
-use Rattle.iref_model.specs.PathSteps as step
-use Rattle.iref_model.proofs.NormalPathLemmas.{path_key-normalized_alone}
+use Rattle.iref_grammar.specs.PathKey.{path_key}
+use Rattle.iref_grammar.specs.PathSteps as step
+use Rattle.iref_grammar.proofs.NormalPathLemmas.{path_key-normalized_alone}
 use Rattle.iref_component.specs.Paths.{path_value}
 use Rattle.iref_component.proofs.path.RuleText+S+PathRule+C.normalized.Goals as goal
 

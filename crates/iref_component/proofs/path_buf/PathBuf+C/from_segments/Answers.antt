@@ -1,7 +1,7 @@
 use Rattle.std.proofs.Common.{arith}
 use Rattle.iref_component.specs.Components.{text_of}
 use Rattle.iref_grammar.proofs.PathLemmas.{read_path-reads}
-use Rattle.iref_model.specs.PathSteps.{from_segments}
+use Rattle.iref_grammar.specs.PathSteps.{from_segments}
 use Rattle.iref_component.proofs.ManyLemmas.{from_segments_next}
 use Rattle.iref_component.proofs.path_buf.PathBuf+C.from_segments.Goals as goal
 

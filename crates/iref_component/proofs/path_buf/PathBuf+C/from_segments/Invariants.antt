@@ -1,6 +1,6 @@
 use Rattle.std.proofs.Common.{map}
 use Rattle.iref_component.specs.{Components.{text_of}, PathEdits.{SpellsPath}}
-use Rattle.iref_model.specs.PathSteps.{from_segments}
+use Rattle.iref_grammar.specs.PathSteps.{from_segments}
 use Rattle.iref_component.proofs.path_buf.PathBuf+C.from_segments.Given as goal
 
 abbrev pub invariant-loop-segment : goal.invariant-loop-segment

@@ -1,7 +1,7 @@
 use Rattle.std.proofs.Common.{◌≡◌, map, fold}
 use Rattle.iref_component.specs.Components.{text_of}
 use Rattle.iref_component.specs.PathEdits.{path_mut_context, path_mut_value, IsSameEditor, BecomesPath}
-use Rattle.iref_model.specs.{NormalList.{ends_in_dots}, PathSteps.{followed}}
+use Rattle.iref_grammar.specs.{NormalList.{ends_in_dots}, PathSteps.{followed}}
 use Rattle.iref_component.proofs.path_mut.PathMut.append.Given as goal
 
 abbrev pub invariant-loop-segment : goal.invariant-loop-segment

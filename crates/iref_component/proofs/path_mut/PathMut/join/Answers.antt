@@ -3,8 +3,8 @@ use Rattle.iref_component.specs.{Components.{text_of}, Paths.{path_value, segmen
 use Rattle.iref_component.specs.PathEdits.{EditsTo, path_mut_context, path_mut_value}
 use Rattle.iref_grammar.specs.{Contexts.{is_readable_path}, PathValue.{read_path}}
 use Rattle.iref_grammar.proofs.PathTestLemmas.{is_path-segments}
-use Rattle.iref_model.specs.PathSteps.{joined, appended}
-use Rattle.iref_model.proofs.ReadableStepLemmas.{appended-readable}
+use Rattle.iref_grammar.specs.PathSteps.{joined, appended}
+use Rattle.iref_grammar.proofs.ReadableStepLemmas.{appended-readable}
 use Rattle.iref_component.proofs.ManyLemmas.{copy_edit, items_drained, joined_relative}
 use Rattle.iref_component.proofs.path_mut.PathMut.join.Goals as goal
 

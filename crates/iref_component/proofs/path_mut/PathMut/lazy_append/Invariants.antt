@@ -1,6 +1,6 @@
 use Rattle.std.proofs.Common.{map}
 use Rattle.iref_component.specs.Components.{text_of}
-use Rattle.iref_model.specs.PathSteps.{lazy_appended}
+use Rattle.iref_grammar.specs.PathSteps.{lazy_appended}
 use Rattle.iref_component.specs.PathEdits.{path_mut_context, path_mut_value, IsSameEditor, BecomesPath}
 use Rattle.iref_component.proofs.path_mut.PathMut.lazy_append.Given as goal
 

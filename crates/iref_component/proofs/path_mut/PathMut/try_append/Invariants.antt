@@ -1,6 +1,6 @@
 use Rattle.std.proofs.Common.{◌≡◌, map, fold}
 use Rattle.std.specs.List.{All}
-use Rattle.iref_model.specs.{NormalList.{ends_in_dots}, PathSteps.{followed}}
+use Rattle.iref_grammar.specs.{NormalList.{ends_in_dots}, PathSteps.{followed}}
 use Rattle.iref_component.specs.Appends.{IsSegmentText}
 use Rattle.iref_component.specs.PathEdits.{path_mut_context, path_mut_value, IsSameEditor, BecomesPath}
 use Rattle.iref_component.proofs.path_mut.PathMut.try_append.Given as goal

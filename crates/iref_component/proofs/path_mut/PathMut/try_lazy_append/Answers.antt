@@ -1,6 +1,6 @@
 use Rattle.std.proofs.{Common.{arith}, lemmas.List.Elements.{All-nil, All-push}}
 use Rattle.iref_component.specs.Appends.{IsSegmentText}
-use Rattle.iref_model.specs.PathSteps.{lazy_appended}
+use Rattle.iref_grammar.specs.PathSteps.{lazy_appended}
 use Rattle.iref_component.proofs.ManyLemmas.{no_edit, lazy_edit}
 use Rattle.iref_component.proofs.path_mut.PathMut.try_lazy_append.Goals as goal
 

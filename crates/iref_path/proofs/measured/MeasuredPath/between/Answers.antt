@@ -1,6 +1,6 @@
 use Rattle.std.proofs.Common.{◌∙◌, ap, arith, length}
 use Rattle.iref_grammar.specs.PathValue.{read_path}
-use Rattle.iref_model.specs.{NormalList.{normal_segments}, PathSuffix.{same_decoded}}
+use Rattle.iref_grammar.specs.{NormalList.{normal_segments}, PathSuffix.{same_decoded}}
 use Rattle.iref_path.specs.{Spelling.{each_closed}, StepsBetween.{steps_with}}
 use Rattle.iref_path.proofs.{RelativeStepLemmas.{up_length}, SpellLemmas.{normal_size-text}}
 use Rattle.iref_path.proofs.StepsBetweenLemmas.{size-with_last, steps-whole}

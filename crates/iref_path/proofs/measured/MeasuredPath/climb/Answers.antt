@@ -1,6 +1,6 @@
 use Rattle.std.proofs.Common.{◌≡◌, ◌∙◌, true, false, ap, arith, length, List}
 use Rattle.iref_grammar.specs.{Rules.{Text}, Texts.{all_but_last}, Contexts.{alone}, PathValue.{read_path, spell_path}}
-use Rattle.iref_model.specs.{Guard.{guarded}, NormalList.{normal_segments}, Relativized.{is_climb}}
+use Rattle.iref_grammar.specs.{Guard.{guarded}, NormalList.{normal_segments}, Relativized.{is_climb}}
 use Rattle.iref_path.specs.{NormalItems.{normal_left}, Spelling.{each_closed}}
 use Rattle.iref_path.proofs.{SpellLemmas.{normal_size-text}, StepsBetweenLemmas.{front-take, size-front}}
 use Rattle.iref_path.proofs.TextStepLemmas.{climb_unguarded}

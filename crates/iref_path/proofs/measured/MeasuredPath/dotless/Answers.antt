@@ -1,5 +1,5 @@
 use Rattle.iref_grammar.specs.Grammar.{slash}
-use Rattle.iref_model.proofs.PieceLemmas.{some_piece}
+use Rattle.iref_grammar.proofs.PieceLemmas.{some_piece}
 use Rattle.iref_path.specs.{Bodies.{after_front}, MeasuredPaths.{measured_text}}
 use Rattle.iref_path.proofs.DotlessLemmas.{both_pieces, dotless-spelled, first_of_both_texts}
 use Rattle.std.proofs.Common.{arith}

@@ -1,8 +1,8 @@
 use Rattle.std.proofs.Common.{◌≡◌, ◌≢◌, ◌∙◌, false, ap, arith, subst, sym, IfSome, nat_le, List, Bool}
 use Rattle.iref_grammar.specs.{Rules.{Text}, Texts.{all_but_last}, Contexts.{alone}}
 use Rattle.iref_grammar.specs.PathValue.{PathValue, read_path, spell_path}
-use Rattle.iref_model.specs.{Guard.{guarded}, NormalList.{count_parents, kept_segments, normal_segments}}
-use Rattle.iref_model.specs.Relativized.{path_from, shortened}
+use Rattle.iref_grammar.specs.{Guard.{guarded}, NormalList.{count_parents, kept_segments, normal_segments}}
+use Rattle.iref_grammar.specs.Relativized.{path_from, shortened}
 use Rattle.iref_path.specs.MeasuredPaths.{measured_text}
 use Rattle.iref_path.proofs.TextStepLemmas.{directory-read, dotless_reached, dotless_steps, other_flag, same_flag}
 use Rattle.iref_path.proofs.measured.MeasuredPath.relativized.Goals as goal

@@ -1,5 +1,5 @@
 use Rattle.std.proofs.lemmas.Result.{IfOk-weaker}
-use Rattle.iref_model.proofs.ReadableRelativeLemmas.{relative_to-readable}
+use Rattle.iref_grammar.proofs.ReadableRelativeLemmas.{relative_to-readable}
 use Rattle.iref_parse.specs.ReferenceSlices.{value_of}
 use Rattle.iref_reference_text.proofs.MeasuredLemmas.{composes, spells_same}
 use Rattle.iref_reference.proofs.composed.Composed.relative_to.Goals as goal

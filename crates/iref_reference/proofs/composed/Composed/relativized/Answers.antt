@@ -1,7 +1,7 @@
 use Rattle.std.proofs.Common.{◌≡◌, arith, subst, sym, None, Option, Some, option_map}
 use Rattle.iref_grammar.specs.ComponentTexts.{ComponentTexts, spell_components}
 use Rattle.iref_parse.specs.ReferenceSlices.{value_of}
-use Rattle.iref_model.specs.RelativizedChoice.{chosen}
+use Rattle.iref_grammar.specs.RelativizedChoice.{chosen}
 use Rattle.iref_reference_text.proofs.LeadLemmas.{readable-fits}
 use Rattle.iref_reference_text.specs.MeasuredReferences.{IsReady, measured_components}
 use Rattle.iref_reference.specs.Shortest.{IsRelativized}

@@ -1,6 +1,6 @@
 use Rattle.std.proofs.Common.{ap, sym, ◌∙◌}
 use Rattle.iref_grammar.specs.Characters.{iri_chars, uri_chars, uri_above_ascii}
-use Rattle.iref_model.specs.Mapping.{mapped}
+use Rattle.iref_grammar.specs.Mapping.{mapped}
 use Rattle.iref_reference.specs.References.{reference_text, reference_buf_text}
 use Rattle.iref_reference.proofs.MappingLemmas.{kept}
 use Rattle.iref_reference.proofs.conversions.Reference+R+IriChars.mapped.Goals as goal

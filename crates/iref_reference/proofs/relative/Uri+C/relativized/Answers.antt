@@ -1,6 +1,6 @@
 use Rattle.std.proofs.Common.{◌≡◌, ◌∙◌, ap, arith, None, Some, is_some}
 use Rattle.iref_grammar.specs.Reference.{ReferenceValue, read_reference}
-use Rattle.iref_model.specs.{Relativized.{relativized}, RelativizedLaws.{AreReadable}}
+use Rattle.iref_grammar.specs.{Relativized.{relativized}, RelativizedLaws.{AreReadable}}
 use Rattle.iref_reference.specs.References.{reference_buf_text, reference_text}
 use Rattle.iref_reference.proofs.ShortestLemmas.{answer_leads, none_is_shorter, none_leads}
 use Rattle.iref_reference.proofs.relative.Uri+C.relativized.Goals as goal

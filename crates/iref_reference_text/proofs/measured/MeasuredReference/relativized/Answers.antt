@@ -2,7 +2,7 @@ use Rattle.std.proofs.Common.{◌≡◌, ◌∙◌, ◌&&◌, ap, arith, false, 
 use Rattle.iref_grammar.proofs.ComponentLemmas.{is_some-copied}
 use Rattle.iref_grammar.specs.{ComponentTexts.{spell_components}, PathValue.{spell_path}}
 use Rattle.iref_parse.specs.ReferenceSlices.{texts_of, value_of}
-use Rattle.iref_model.specs.RelativizedTests.{is_settled}
+use Rattle.iref_grammar.specs.RelativizedTests.{is_settled}
 use Rattle.iref_reference_text.specs.{Relatives.{after_path}, ShortestTexts.{shared_of, shares_path, shares_query}}
 use Rattle.iref_reference_text.proofs.ShortestTextLemmas.{chosen-fragment, chosen-none, chosen-path, chosen-tail}
 use Rattle.iref_reference_text.proofs.measured.MeasuredReference.relativized.Goals as goal

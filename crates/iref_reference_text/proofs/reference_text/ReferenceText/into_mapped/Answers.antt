@@ -1,7 +1,7 @@
 use Rattle.std.proofs.Common.{◌≡◌, true, arith}
 use Rattle.iref_grammar.specs.{Characters.{uri_chars, uri_above_ascii}, Rules.{Text}}
-use Rattle.iref_model.specs.Mapping.{mapped}
-use Rattle.iref_model.proofs.MappedLemmas.{mapped-ascii, none_escaped}
+use Rattle.iref_grammar.specs.Mapping.{mapped}
+use Rattle.iref_grammar.proofs.MappedLemmas.{mapped-ascii, none_escaped}
 use Rattle.iref_reference_text.proofs.{ReferenceTextLemmas.{in_rule_utf8}, MappingLemmas.{mapping-in_rule}}
 use Rattle.iref_reference_text.proofs.reference_text.ReferenceText.into_mapped.Given.{Over}
 use Rattle.iref_reference_text.proofs.reference_text.ReferenceText.into_mapped.Goals as goal

@@ -1,7 +1,7 @@
 use Rattle.std.proofs.{Common.{ap, length, sym, subst, ◌∙◌}, lemmas.List.{append-nil}}
 use Rattle.std.specs.List.{splice}
 use Rattle.iref_grammar.specs.{PathValue.{read_path, spell_path}, Reference.{read_reference}}
-use Rattle.iref_model.specs.ComponentSteps.{with_path, with_new_normal_path}
+use Rattle.iref_grammar.specs.ComponentSteps.{with_path, with_new_normal_path}
 use Rattle.iref_reference_text.specs.{PathRanges.{RemovesDots}, ComponentLengths.{context_by}}
 use Rattle.iref_reference_text.proofs.{LengthLemmas.{context-lengths}, EditLemmas.{after_ok, normal_path_set}}
 use Rattle.iref_reference_text.proofs.PathRangeLemmas.{normal_in_place, removes_dots}

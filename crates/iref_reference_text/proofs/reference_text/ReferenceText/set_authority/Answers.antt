@@ -2,8 +2,8 @@ use Rattle.std.proofs.Common.{arith, length-append, sym, ◌∙◌, option_map}
 use Rattle.std.specs.Option.{option_copied}
 use Rattle.iref_grammar.specs.{Authority.{read_authority}, Reference.{read_reference}}
 use Rattle.iref_grammar.proofs.ComponentLemmas.{authority_spelled, is_some-copied}
-use Rattle.iref_model.proofs.MappedMarkLemmas.{is_some-map}
-use Rattle.iref_model.specs.ComponentSteps.{with_authority}
+use Rattle.iref_grammar.proofs.MappedMarkLemmas.{is_some-map}
+use Rattle.iref_grammar.specs.ComponentSteps.{with_authority}
 use Rattle.iref_reference_text.proofs.EditLemmas.{authority_set}
 use Rattle.iref_reference_text.proofs.reference_text.ReferenceText.set_authority.Goals as goal
 

@@ -1,6 +1,6 @@
 use Rattle.std.proofs.{Common.{arith, length-append}, lemmas.List.{append-nil}}
 use Rattle.iref_grammar.specs.{PathValue.{read_path}, Reference.{read_reference, context_of}}
-use Rattle.iref_model.specs.{ComponentSteps.{with_path}, Guard.{guarded}}
+use Rattle.iref_grammar.specs.{ComponentSteps.{with_path}, Guard.{guarded}}
 use Rattle.iref_reference_text.proofs.{LengthLemmas.{context-lengths}, EditLemmas.{path_set}}
 use Rattle.iref_reference_text.proofs.reference_text.ReferenceText.set_path.Goals as goal
 

@@ -2,7 +2,7 @@ use Rattle.std.proofs.Common.{arith, ◌≡◌, ◌+◌, length, length-append, 
 use Rattle.std.specs.Option.{option_copied}
 use Rattle.iref_grammar.specs.{PathValue.{spell_path}, Reference.{read_reference}}
 use Rattle.iref_grammar.proofs.ComponentLemmas.{is_some-copied}
-use Rattle.iref_model.specs.ComponentSteps.{with_scheme}
+use Rattle.iref_grammar.specs.ComponentSteps.{with_scheme}
 use Rattle.iref_reference_text.proofs.EditLemmas.{scheme_set, spells, with_scheme-parts}
 use Rattle.iref_reference_text.proofs.reference_text.ReferenceText.set_scheme.Goals as goal
 

@@ -1,6 +1,6 @@
 use Rattle.std.proofs.Common.{◌++◌, ◌∙◌, ap, sym, true}
-use Rattle.iref_model.specs.{NormalList.{without_lone_empty}, NormalReading.{closing, staying_before}}
-use Rattle.iref_model.proofs.ItemLemmas.{normal_segments-is}
+use Rattle.iref_grammar.specs.{NormalList.{without_lone_empty}, NormalReading.{closing, staying_before}}
+use Rattle.iref_grammar.proofs.ItemLemmas.{normal_segments-is}
 use Rattle.iref_path.specs.{NormalItems.{names_and_closing}, Pieces.{pieces_if_some}, Stacks.{path_of}}
 use Rattle.iref_path.proofs.normal_items.rooted.RootedItems.new.Goals as goal
 

@@ -1,6 +1,6 @@
 use Rattle.std.proofs.Common.{◌≡◌, ◌+◌, ◌++◌, List, length}
 use Rattle.iref_grammar.specs.Rules.{Text}
-use Rattle.iref_model.specs.NormalReading.{open_before, staying_before}
+use Rattle.iref_grammar.specs.NormalReading.{open_before, staying_before}
 use Rattle.iref_path.specs.{Pieces.{pieces_if_some}, NormalItems.{IsReadable, names_staying, open_at_start}}
 use Rattle.iref_path.specs.{Spelling.{each_closed}, Stacks.{Completes}}
 use Rattle.iref_path.proofs.normal_items.stack.Stack.put_names.Given as goal

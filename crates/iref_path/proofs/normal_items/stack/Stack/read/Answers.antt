@@ -1,5 +1,5 @@
 use Rattle.std.proofs.Common.{[], refl, arith}
-use Rattle.iref_model.specs.NormalReading.{staying_before}
+use Rattle.iref_grammar.specs.NormalReading.{staying_before}
 use Rattle.iref_path.specs.{Pieces.{pieces_if_some}, Stacks.{path_of}}
 use Rattle.iref_path.proofs.{NormalItemsLemmas.{parts-whole}, SpellLemmas.{kept_size}, StackLemmas.{parts_put}}
 use Rattle.iref_path.proofs.normal_items.stack.Stack.read.Goals as goal

@@ -1,8 +1,0 @@
-use Rattle.iref_model.proofs.AsciiReferenceLemmas.{Decides-uri_reference, Decides-uri}
-use Rattle.iref_model.proofs.mapping_laws.iris_of_ascii_are_uris.Goals as goal
-
-pub returns : goal.returns
-returns g c = record {
-  reference = Decides-uri_reference g.S.CharSet.tests g.met.S.CharSet.above_ascii;
-  full = Decides-uri g.S.CharSet.tests g.met.S.CharSet.above_ascii;
-}

@@ -1,8 +1,0 @@
-use Rattle.iref_model.proofs.MappedReferenceLemmas.{reference_is_uri_reference, iri_is_uri}
-use Rattle.iref_model.proofs.mapping_laws.mapped_iris_are_uris.Goals as goal
-
-pub returns : goal.returns
-returns g c = record {
-  reference = reference_is_uri_reference g.S.CharSet.tests g.met.S.CharSet.above_ascii;
-  full = iri_is_uri g.S.CharSet.tests g.met.S.CharSet.above_ascii;
-}

@@ -1,5 +1,0 @@
-use Rattle.iref_model.proofs.AsciiReferenceLemmas.{stays_if_uri_reference}
-use Rattle.iref_model.proofs.mapping_laws.mapping_keeps_uris.Goals as goal
-
-pub returns : goal.returns
-returns g c = stays_if_uri_reference g.S.CharSet.tests g.met.S.CharSet.above_ascii
