@@ -1,5 +1,6 @@
-//! Functions as a caller writes them, each proved from public clauses and laws of `iref`: here
-//! those of one reference or path, and a module for each longer example.
+//! Functions as a caller writes them, proved from public clauses and laws of `iref`: here those of
+//! one reference or path, and a module for each longer example. Those of `chosen` know nothing of
+//! references: `iref_bench` draws from its tables by them.
 #![tactic(auto)]
 
 ghost use Rattle.std.specs.Prelude.{◌≡◌, ◌↔◌, IfOk, MatchOption, count_by, fold, length, map, max, reverse, true};
