@@ -1,4 +1,12 @@
 //! One answer to the words of a command.
+ghost use Rattle.std.specs.Prelude.{◌≡◌, false, IfOk, OnOk, codes, option_map, string_bytes};
+ghost use Rattle.clap.specs.Words.{first_value, found_of};
+ghost use Rattle.iref.specs.{Components.{text_of}, Characters.{iri_chars}, Faults.{fault_of_reference}};
+ghost use Rattle.iref_reference.specs.References.{reference_text, reference_value};
+ghost use Rattle.iref_tool.specs.Replies.{EndsAs, MayEndAs, equal_reply, is_unsaid, normal_reply, part_lines};
+ghost use Rattle.iref_tool.specs.Replies.{relative_reply, relativized_reply, reply_of, reply_of_two, resolved_reply};
+ghost use Rattle.iref_tool.specs.Replies.{to_uri_reply, with_part};
+ghost use Rattle.iref_tool.specs.Words.{ReadsAtEnd, word, words};
 
 use crate::edits::edited;
 use crate::prefixes::{compacted, expanded};
@@ -17,7 +25,10 @@ fn push_part<R: Rule, C: CharSet>(
     lines: &mut String,
     name: &str,
     part: Option<BorrowedText<'_, R, C>>,
-) -> Result<(), Memory> {
+) -> Result<(), Memory>
+    ensures { OnOk result (string_bytes lines.new
+        ≡ with_part (string_bytes lines.old) name.now (option_map text_of part.entry)) }
+{
     let Some(part) = part else {
         return Ok(());
     };
@@ -30,21 +41,20 @@ fn push_part<R: Rule, C: CharSet>(
     Ok(())
 }
 
-// A line for each component that is there.
-fn parts(alloc: Global, reference: IriRef<'_>) -> Result<String, Memory> {
+// A line for each component that is there, and for each part of the authority.
+fn parts(alloc: Global, reference: IriRef<'_>) -> Result<String, Memory>
+    ensures { IfOk result (λ lines.
+        string_bytes lines ≡ part_lines (reference_value reference.entry)) }
+{
     let mut lines = String::new(alloc);
-    let parts = reference.parts();
-    push_part(&mut lines, "scheme", parts.scheme)?;
-    push_part(&mut lines, "authority", parts.authority)?;
-    if let Some(authority) = parts.authority {
-        let inner = authority.parts();
-        push_part(&mut lines, "user info", inner.user_info)?;
-        push_part(&mut lines, "host", Some(inner.host))?;
-        push_part(&mut lines, "port", inner.port)?;
-    }
-    push_part(&mut lines, "path", Some(parts.path))?;
-    push_part(&mut lines, "query", parts.query)?;
-    push_part(&mut lines, "fragment", parts.fragment)?;
+    push_part(&mut lines, "scheme", reference.scheme())?;
+    push_part(&mut lines, "authority", reference.authority())?;
+    push_part(&mut lines, "user info", reference.user_info())?;
+    push_part(&mut lines, "host", reference.host())?;
+    push_part(&mut lines, "port", reference.port())?;
+    push_part(&mut lines, "path", Some(reference.path()))?;
+    push_part(&mut lines, "query", reference.query())?;
+    push_part(&mut lines, "fragment", reference.fragment())?;
     Ok(lines)
 }
 
@@ -52,24 +62,37 @@ fn parts(alloc: Global, reference: IriRef<'_>) -> Result<String, Memory> {
 fn reference_of<'m, 'w: 'm>(
     matches: &'m ArgMatches<'w>,
     id: &'static str,
-) -> Result<IriRef<'m>, Refusal<'m>> {
+) -> Result<IriRef<'m>, Refusal<'m>>
+    ensures { ReadsAtEnd reference_text
+        (fault_of_reference iri_chars (word (found_of matches.now) id.now)) id.now
+        (codes "IRI reference") (word (found_of matches.now) id.now)
+        (word (found_of matches.now) id.now) result }
+{
     reference(id, word_of(matches, id))
 }
 
 // The normal form of a path.
-fn normal<'a>(alloc: Global, word: &'a str) -> Result<String, Refusal<'a>> {
+fn normal<'a>(alloc: Global, word: &'a str) -> Result<String, Refusal<'a>>
+    ensures { EndsAs (normal_reply word.now) result }
+{
     let path: Path<'_> = component("PATH", "path", word, word)?;
     Ok(path.normalized(alloc)?.into_string())
 }
 
 // Whether two references mean the same: `yes` or `no`.
-fn equal<'m, 'w: 'm>(alloc: Global, matches: &'m ArgMatches<'w>) -> Result<String, Refusal<'m>> {
+fn equal<'m, 'w: 'm>(alloc: Global, matches: &'m ArgMatches<'w>) -> Result<String, Refusal<'m>>
+    ensures { EndsAs (equal_reply (word (found_of matches.now) (codes "FIRST"))
+        (word (found_of matches.now) (codes "SECOND"))) result }
+{
     let equal = reference_of(matches, "FIRST")? == reference_of(matches, "SECOND")?;
     Ok(String::from_str(alloc, if equal { "yes" } else { "no" }).or(Err(Memory))?)
 }
 
 // A reference that leads from a base to a target.
-fn relative<'m, 'w: 'm>(alloc: Global, matches: &'m ArgMatches<'w>) -> Result<String, Refusal<'m>> {
+fn relative<'m, 'w: 'm>(alloc: Global, matches: &'m ArgMatches<'w>) -> Result<String, Refusal<'m>>
+    ensures { EndsAs (relative_reply (word (found_of matches.now) (codes "TARGET"))
+        (word (found_of matches.now) (codes "BASE"))) result }
+{
     let target = reference_of(matches, "TARGET")?;
     let base = reference_of(matches, "BASE")?;
     Ok(target.relative_to(alloc, base)?.into_string())
@@ -82,7 +105,9 @@ fn edit<'m, 'w: 'm>(alloc: Global, matches: &'m ArgMatches<'w>) -> Result<String
 }
 
 // An IRI, escaped as a URI.
-fn to_uri<'m, 'w: 'm>(alloc: Global, matches: &'m ArgMatches<'w>) -> Result<String, Refusal<'m>> {
+fn to_uri<'m, 'w: 'm>(alloc: Global, matches: &'m ArgMatches<'w>) -> Result<String, Refusal<'m>>
+    ensures { EndsAs (to_uri_reply (word (found_of matches.now) (codes "IRI"))) result }
+{
     let reference = reference_of(matches, "IRI")?;
     Ok(reference.to_uri_ref(alloc)?.into_string())
 }
@@ -100,13 +125,17 @@ fn expand<'m, 'w: 'm>(alloc: Global, matches: &'m ArgMatches<'w>) -> Result<Stri
 }
 
 // What a reference resolves to against a base.
-fn resolved<'a>(alloc: Global, word: &'a str, base: &'a str) -> Result<String, Refusal<'a>> {
+fn resolved<'a>(alloc: Global, word: &'a str, base: &'a str) -> Result<String, Refusal<'a>>
+    ensures { EndsAs (resolved_reply word.now base.now) result }
+{
     let reference = reference("REFERENCE", word)?;
     Ok(reference.resolved(alloc, iri("BASE", base)?)?.into_string())
 }
 
 // The shortest reference from a base to the text of a target.
-fn relativized<'a>(alloc: Global, target: &'a str, base: &'a str) -> Result<String, Refusal<'a>> {
+fn relativized<'a>(alloc: Global, target: &'a str, base: &'a str) -> Result<String, Refusal<'a>>
+    ensures { EndsAs (relativized_reply target.now base.now) result }
+{
     let from = iri("BASE", base)?;
     match iri("TARGET", target)?.relativized(alloc, from)? {
         Some(reference) => Ok(reference.into_string()),
@@ -119,7 +148,10 @@ fn answer_of_two<'m, 'w: 'm>(
     alloc: Global,
     name: &str,
     matches: &'m ArgMatches<'w>,
-) -> Result<Option<String>, Refusal<'m>> {
+) -> Result<Option<String>, Refusal<'m>>
+    ensures { MayEndAs (reply_of_two name.now (first_value (found_of matches.now) (codes "base"))
+        (words (found_of matches.now) (codes "WORD"))) result }
+{
     match (name, matches.get_str("base"), words_of(matches, "WORD")) {
         ("resolve", None, [word, base]) => Ok(Some(resolved(alloc, *word, *base)?)),
         ("relativize", None, [word, base]) => Ok(Some(relativized(alloc, *word, *base)?)),
@@ -133,7 +165,10 @@ pub fn answer<'m, 'w: 'm>(
     alloc: Global,
     name: &str,
     matches: &'m ArgMatches<'w>,
-) -> Result<Option<String>, Refusal<'m>> {
+) -> Result<Option<String>, Refusal<'m>>
+    ensures { is_unsaid name.now ≡ false
+        → MayEndAs (reply_of name.now (found_of matches.now)) result }
+{
     let answer = match name {
         "parts" => parts(alloc, reference_of(matches, "URI")?)?,
         "normal" => normal(alloc, word_of(matches, "PATH"))?,

@@ -1,4 +1,6 @@
 //! Words that have no answer, and why.
+ghost use Rattle.std.specs.Prelude.{◌≡◌};
+ghost use Rattle.iref_tool.specs.Words.{status_of};
 
 use crate::place::{Why, columns_before};
 use iref::compact::Labels;
@@ -72,6 +74,10 @@ pub enum Refusal<'a> {
 }
 
 impl From<Memory> for Refusal<'_> {
+    ghost use Rattle.iref_tool.specs.declared.refusal.Refusal.TheVariants as refusal;
+
+    ghost from_gives = { λ _ refused. refused ≡ refusal.Memory };
+
     fn from(_error: Memory) -> Self {
         Refusal::Memory
     }
@@ -79,7 +85,9 @@ impl From<Memory> for Refusal<'_> {
 
 impl Refusal<'_> {
     /// The status of the program.
-    pub fn status(&self) -> Status {
+    pub fn status(&self) -> Status
+        ensures { result ≡ status_of self.now }
+    {
         match self {
             Refusal::Word(
                 _,

@@ -1,4 +1,7 @@
 //! The words of the command.
+ghost use Rattle.std.specs.Prelude.{◌≡◌, map};
+ghost use Rattle.clap.specs.Words.{found_of};
+ghost use Rattle.iref_tool.specs.Words.{word, words};
 
 use clap::{Arg, ArgAction, ArgMatches, Command};
 use std::alloc::{AllocError, Global};
@@ -169,15 +172,19 @@ pub fn command<'a>(alloc: Global) -> Result<Command<'a>, AllocError> {
     Ok(command)
 }
 
-/// The word that stands for an argument, which has to be there.
-pub fn word_of<'m, 'w: 'm>(matches: &'m ArgMatches<'w>, id: &str) -> &'m str {
+/// The word that stands for an argument, which has to be there; else the empty text.
+pub fn word_of<'m, 'w: 'm>(matches: &'m ArgMatches<'w>, id: &str) -> &'m str
+    ensures { result.now ≡ word (found_of matches.now) id.now }
+{
     match matches.get_str(id) {
         Some(word) => word,
         None => "",
     }
 }
 
-/// The words that stand for an argument.
-pub fn words_of<'m, 'w: 'm>(matches: &'m ArgMatches<'w>, id: &str) -> &'m [&'m str] {
+/// The words that stand for an argument; none where it is not there.
+pub fn words_of<'m, 'w: 'm>(matches: &'m ArgMatches<'w>, id: &str) -> &'m [&'m str]
+    ensures { map (λ word. word.now) result.now ≡ words (found_of matches.now) id.now }
+{
     matches.get_strs(id).unwrap_or(&[])
 }

@@ -1,0 +1,70 @@
+-- What the command makes of a line of a file.
+use Rattle.std.specs.Prelude.{◌≡◌, Bool, ◌||◌, List, ◌∷◌, ◌++◌, Option, Some, None, Result, Ok, Err, is_none, is_some, if◌then◌else◌}
+use Rattle.std.specs.{BTreeSet.{contains}, List.{filter}}
+use Rattle.iref.specs.{Characters.{iri_chars, uri_chars}, Faults.{FaultValue, fault_of_reference, fault_of_uri}}
+use Rattle.iref.specs.{BytePlaces.{fault_value}, Keys.{text_order}, Key.{are_alike, key}, Rules.{Text}}
+use Rattle.iref.specs.{Reference.{ReferenceValue, read_reference}, ReferenceSuffix.{reference_suffix}, SortKey.{sort_key}}
+use Rattle.iref_batch.specs.{Lines.{tab}, Runs.{ended_lines, with_newline}, Gathering.{Extends}}
+use Rattle.iref_tool.specs.declared.jobs.{LineFault.{LineFault}, Sort.{Sort}, Unique.{Unique}}
+use Rattle.iref_tool.specs.declared.jobs.LineFault.TheVariants.{Invalid, NoReference, Memory}
+
+-- a text is written; or the line is outside its rule, and why; or no reference resolves to it
+pub data Outcome : Type 0 where
+  Written : Text → Outcome
+  Refused : FaultValue → Outcome
+  Unreached : Outcome
+
+-- the call has added the text; where it says that the line has none, or that memory was refused, it may have added a part
+abbrev pub EndsBy : Outcome → Text → Text → Result (Unit {0}) LineFault → Type 0
+EndsBy outcome old new (Ok _) = (text : Text) × (outcome ≡ Written text) × (new ≡ old ++ text)
+EndsBy outcome old new (Err (Invalid fault)) = (outcome ≡ Refused (fault_value fault)) × Extends old new
+EndsBy outcome old new (Err NoReference) = (outcome ≡ Unreached) × Extends old new
+EndsBy outcome old new (Err Memory) = Extends old new
+
+-- what is made of a line in its rule; of another its fault
+abbrev pub unless_fault : Option FaultValue → Outcome → Outcome
+unless_fault None outcome = outcome
+unless_fault (Some fault) outcome = Refused fault
+
+-- the rule is that of IRI references
+abbrev pub of_reference : (ReferenceValue → Outcome) → Text → Outcome
+of_reference outcome line = unless_fault (fault_of_reference iri_chars line) (outcome (read_reference line))
+
+-- the rule is that of IRIs
+abbrev pub of_iri : (ReferenceValue → Outcome) → Text → Outcome
+of_iri outcome line = unless_fault (fault_of_uri iri_chars line) (outcome (read_reference line))
+
+-- the answer in a line of its own, which the line that it answers may follow
+abbrev pub answer_line : Bool → Text → Text → Text
+answer_line keep line answer = with_newline (if keep then answer ++ tab ∷ line else answer)
+
+-- the rule may be that of URI references, or want a scheme
+abbrev pub fault_in : Bool → Bool → Text → Option FaultValue
+fault_in uri absolute = (if absolute then fault_of_uri else fault_of_reference) (if uri then uri_chars else iri_chars)
+
+-- whether the reference has a suffix after another
+abbrev pub is_below : ReferenceValue → ReferenceValue → Bool
+is_below above r = is_some (reference_suffix above r)
+
+-- whether the reference is equal to a line before
+abbrev pub has_seen : Unique → ReferenceValue → Bool
+has_seen unique r = contains text_order unique.seen (sort_key (key r))
+
+-- the lines before are the same, and the last one if there is one
+abbrev pub SeesMore : Unique → Option Text → Unique → Type 0
+SeesMore old None new = (r : ReferenceValue) → has_seen new r ≡ has_seen old r
+SeesMore old (Some line) new = (r : ReferenceValue) → has_seen new r ≡ (are_alike (read_reference line) r || has_seen old r)
+
+-- the lines gathered before are the same, and the last one if there is one
+abbrev pub Gathers : Sort → Option Text → Sort → Type 0
+Gathers old None new = new.text.items ≡ old.text.items
+Gathers old (Some line) new = new.text.items ≡ old.text.items ++ with_newline line
+
+-- the answer, if there is one
+abbrev pub or_unreached : (ReferenceValue → Text) → Option ReferenceValue → Outcome
+or_unreached write None = Unreached
+or_unreached write (Some r) = Written (write r)
+
+-- the lines gathered that are IRI references
+abbrev pub lines_in : Sort → List Text
+lines_in sort = filter (λ line. is_none (fault_of_reference iri_chars line)) (ended_lines sort.text.items)
