@@ -1,2 +1,4 @@
+pub mod EditWordLemmas
+pub mod EntryWordLemmas
 pub mod JobLemmas
 pub mod ReplyLemmas

@@ -9,8 +9,11 @@
 //! A line that is not UTF-8 is answered `error invalid`, but one of `fault` with where its reference
 //! is not: `fault<TAB>a` and the byte 255 by `not UTF-8 at byte 1`.
 
+ghost use Rattle.std.specs.Prelude.{◌≡◌, OnErr};
+ghost use Rattle.iref_tool.specs.Examples.{HaveSame};
+
 use iref::Memory;
-use iref::compact::Prefixes;
+use iref::compact::{ExpandFault, PrefixFault, Prefixes};
 use iref::iri::{Iri, IriRef};
 use iref::uri::Uri;
 use iref_examples::cache::Cache;
@@ -45,15 +48,20 @@ fn owned(alloc: Global, text: &str) -> Result<String, Memory> {
     Ok(String::from_str(alloc, text)?)
 }
 
-fn put(alloc: Global, cache: &mut Cache<String>, uri: &str, value: &str) -> Result<String, Memory> {
+fn put(alloc: Global, cache: &mut Cache<String>, uri: &str, value: &str) -> Result<String, Memory>
+    ensures { OnErr result (cache.new ≡ cache.old) }
+{
     let Ok(uri) = Uri::new(uri) else {
         return owned(alloc, "error invalid");
     };
+    let done = owned(alloc, "ok")?;
     cache.put(alloc, uri, owned(alloc, value)?)?;
-    owned(alloc, "ok")
+    Ok(done)
 }
 
-fn get(alloc: Global, tables: &mut Tables, uri: &str) -> Result<String, Memory> {
+fn get(alloc: Global, tables: &mut Tables, uri: &str) -> Result<String, Memory>
+    ensures { HaveSame tables.old tables.new }
+{
     let Ok(uri) = Uri::new(uri) else {
         return owned(alloc, "error invalid");
     };
@@ -70,12 +78,16 @@ fn relink(alloc: Global, page: &str, link: &str) -> Result<String, Memory> {
     }
 }
 
-fn prefix(alloc: Global, context: &mut Prefixes, label: &str, iri: &str) -> Result<String, Memory> {
+fn prefix(alloc: Global, context: &mut Prefixes, label: &str, iri: &str) -> Result<String, Memory>
+    ensures { OnErr result (context.new ≡ context.old) }
+{
     let Ok(iri) = Iri::new(iri) else {
         return owned(alloc, "error: not an IRI");
     };
+    let done = owned(alloc, "ok")?;
     match context.insert(label, iri) {
-        Ok(()) => owned(alloc, "ok"),
+        Ok(()) => Ok(done),
+        Err(PrefixFault::Memory) => Err(Memory),
         Err(error) => Ok(format!(in alloc; "error: {error}")?),
     }
 }
@@ -93,6 +105,7 @@ fn shorten(alloc: Global, context: &Prefixes, iri: &str) -> Result<String, Memor
 fn expand(alloc: Global, context: &Prefixes, short: &str) -> Result<String, Memory> {
     match context.expand(alloc, short) {
         Ok(iri) => Ok(iri.into_string()),
+        Err(ExpandFault::Memory) => Err(Memory),
         Err(error) => Ok(format!(in alloc; "error: {error}")?),
     }
 }
@@ -139,7 +152,9 @@ fn fault(alloc: Global, reference: &[u8]) -> Result<String, Memory> {
 }
 
 // The answer to a text, whose verb alone is followed by an empty field; `get` alone is no command.
-fn answer_text(alloc: Global, tables: &mut Tables, line: &str) -> Result<String, Memory> {
+fn answer_text(alloc: Global, tables: &mut Tables, line: &str) -> Result<String, Memory>
+    ensures { OnErr result (HaveSame tables.old tables.new) }
+{
     let (verb, rest) = line.split_once('\t').unwrap_or((line, ""));
     match (verb, rest.split_once('\t')) {
         ("put", Some((uri, value))) => put(alloc, &mut tables.cache, uri, value),
@@ -172,8 +187,11 @@ pub fn is_of_examples(line: &[u8]) -> bool {
     }
 }
 
-/// The answer to a line with a verb of the examples.
-pub fn answer(alloc: Global, tables: &mut Tables, line: &[u8]) -> Result<String, Memory> {
+/// The answer to a line with a verb of the examples. Out of memory, it leaves the cache and the
+/// context as they were.
+pub fn answer(alloc: Global, tables: &mut Tables, line: &[u8]) -> Result<String, Memory>
+    ensures { OnErr result (HaveSame tables.old tables.new) }
+{
     match (str::from_utf8(line), line.strip_prefix(b"fault\t")) {
         (Ok(text), _) => answer_text(alloc, tables, text),
         (Err(_), Some(reference)) => fault(alloc, reference),

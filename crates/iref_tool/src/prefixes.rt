@@ -1,17 +1,25 @@
 //! IRIs made short, and texts expanded, by entries: words `LABEL=IRI`.
+ghost use Rattle.std.specs.Prelude.{[], map};
+ghost use Rattle.iref.specs.{PrefixTable.{PrefixesValue, ascii_table}};
+ghost use Rattle.iref_reference.specs.References.{reference_text};
+ghost use Rattle.iref_tool.specs.EntryWords.{compacted_by_words, expanded_by_words, with_entries, with_entry};
+ghost use Rattle.iref_tool.specs.Replies.{EndsAs, Returns};
 
 use crate::read::iri_at_end;
 use crate::refusal::{Reason, Refusal};
 use iref::compact::{ExpandFault, PrefixFault, Prefixes};
 use iref::iri::Iri;
+use iref_parse::cut::cut;
 use std::alloc::Global;
 
 /// What usage calls an entry.
 const ENTRY: &str = "LABEL=IRI";
 
 // Adds the entry of a word to the table.
-fn insert<'a>(table: &mut Prefixes, word: &'a str) -> Result<(), Refusal<'a>> {
-    let Some((label, text)) = word.split_once('=') else {
+fn insert<'a>(table: &mut Prefixes, word: &'a str) -> Result<(), Refusal<'a>>
+    ensures { Returns (λ _. table.new) (with_entry word.now table.old) result }
+{
+    let (label, Some(text)) = cut(word, '=') else {
         return Err(Refusal::Word(ENTRY, word, Reason::NoEntry));
     };
     let iri = iri_at_end(ENTRY, word, text)?;
@@ -25,7 +33,10 @@ fn insert<'a>(table: &mut Prefixes, word: &'a str) -> Result<(), Refusal<'a>> {
 }
 
 // The table of the entries.
-fn table_of<'a>(alloc: Global, entries: &[&'a str]) -> Result<Prefixes, Refusal<'a>> {
+fn table_of<'a>(alloc: Global, entries: &[&'a str]) -> Result<Prefixes, Refusal<'a>>
+    ensures { Returns (λ (table : PrefixesValue). table)
+        (with_entries (map (λ word. word.now) entries.now) (ascii_table [])) result }
+{
     let mut table = Prefixes::new(alloc);
     for entry in entries {
         insert(&mut table, *entry)?;
@@ -38,7 +49,10 @@ pub fn compacted<'a>(
     alloc: Global,
     iri: Iri<'a>,
     entries: &[&'a str],
-) -> Result<String, Refusal<'a>> {
+) -> Result<String, Refusal<'a>>
+    ensures { EndsAs (compacted_by_words (reference_text iri.entry)
+        (map (λ word. word.now) entries.now)) result }
+{
     let table = table_of(alloc, entries)?;
     match table.compact(iri) {
         Some(short) => Ok(short.to_text(alloc)?),
@@ -51,7 +65,9 @@ pub fn expanded<'a>(
     alloc: Global,
     text: &'a str,
     entries: &[&'a str],
-) -> Result<String, Refusal<'a>> {
+) -> Result<String, Refusal<'a>>
+    ensures { EndsAs (expanded_by_words text.now (map (λ word. word.now) entries.now)) result }
+{
     let table = table_of(alloc, entries)?;
     match table.expand(alloc, text) {
         Ok(iri) => Ok(iri.into_string()),

@@ -1,11 +1,12 @@
 //! One answer to the words of a command.
-ghost use Rattle.std.specs.Prelude.{◌≡◌, false, IfOk, OnOk, codes, option_map, string_bytes};
+ghost use Rattle.std.specs.Prelude.{◌≡◌, IfOk, OnOk, codes, option_map, string_bytes};
 ghost use Rattle.clap.specs.Words.{first_value, found_of};
 ghost use Rattle.iref.specs.{Components.{text_of}, Characters.{iri_chars}, Faults.{fault_of_reference}};
 ghost use Rattle.iref_reference.specs.References.{reference_text, reference_value};
-ghost use Rattle.iref_tool.specs.Replies.{EndsAs, MayEndAs, equal_reply, is_unsaid, normal_reply, part_lines};
-ghost use Rattle.iref_tool.specs.Replies.{relative_reply, relativized_reply, reply_of, reply_of_two, resolved_reply};
-ghost use Rattle.iref_tool.specs.Replies.{to_uri_reply, with_part};
+ghost use Rattle.iref_tool.specs.Commands.{compact_reply, edit_reply, equal_reply, normal_reply, part_lines};
+ghost use Rattle.iref_tool.specs.Commands.{relative_reply, relativized_reply, reply_of, reply_of_two, resolved_reply};
+ghost use Rattle.iref_tool.specs.Commands.{to_uri_reply, with_part};
+ghost use Rattle.iref_tool.specs.{EntryWords.{expanded_by_words}, Replies.{EndsAs, MayEndAs}};
 ghost use Rattle.iref_tool.specs.Words.{ReadsAtEnd, word, words};
 
 use crate::edits::edited;
@@ -99,7 +100,10 @@ fn relative<'m, 'w: 'm>(alloc: Global, matches: &'m ArgMatches<'w>) -> Result<St
 }
 
 // A reference after edits.
-fn edit<'m, 'w: 'm>(alloc: Global, matches: &'m ArgMatches<'w>) -> Result<String, Refusal<'m>> {
+fn edit<'m, 'w: 'm>(alloc: Global, matches: &'m ArgMatches<'w>) -> Result<String, Refusal<'m>>
+    ensures { EndsAs (edit_reply (word (found_of matches.now) (codes "URI"))
+        (words (found_of matches.now) (codes "EDIT"))) result }
+{
     let reference = reference_of(matches, "URI")?;
     edited(alloc, reference, words_of(matches, "EDIT"))
 }
@@ -113,13 +117,19 @@ fn to_uri<'m, 'w: 'm>(alloc: Global, matches: &'m ArgMatches<'w>) -> Result<Stri
 }
 
 // An IRI, shortened by labels.
-fn compact<'m, 'w: 'm>(alloc: Global, matches: &'m ArgMatches<'w>) -> Result<String, Refusal<'m>> {
+fn compact<'m, 'w: 'm>(alloc: Global, matches: &'m ArgMatches<'w>) -> Result<String, Refusal<'m>>
+    ensures { EndsAs (compact_reply (word (found_of matches.now) (codes "IRI"))
+        (words (found_of matches.now) (codes "LABEL=IRI"))) result }
+{
     let iri = iri("IRI", word_of(matches, "IRI"))?;
     compacted(alloc, iri, words_of(matches, "LABEL=IRI"))
 }
 
 // The IRI that a text with a label stands for.
-fn expand<'m, 'w: 'm>(alloc: Global, matches: &'m ArgMatches<'w>) -> Result<String, Refusal<'m>> {
+fn expand<'m, 'w: 'm>(alloc: Global, matches: &'m ArgMatches<'w>) -> Result<String, Refusal<'m>>
+    ensures { EndsAs (expanded_by_words (word (found_of matches.now) (codes "TEXT"))
+        (words (found_of matches.now) (codes "LABEL=IRI"))) result }
+{
     let text = word_of(matches, "TEXT");
     expanded(alloc, text, words_of(matches, "LABEL=IRI"))
 }
@@ -166,8 +176,7 @@ pub fn answer<'m, 'w: 'm>(
     name: &str,
     matches: &'m ArgMatches<'w>,
 ) -> Result<Option<String>, Refusal<'m>>
-    ensures { is_unsaid name.now ≡ false
-        → MayEndAs (reply_of name.now (found_of matches.now)) result }
+    ensures { MayEndAs (reply_of name.now (found_of matches.now)) result }
 {
     let answer = match name {
         "parts" => parts(alloc, reference_of(matches, "URI")?)?,

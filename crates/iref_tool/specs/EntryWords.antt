@@ -1,0 +1,47 @@
+-- The prefix tables of words `LABEL=IRI`, and what is made short and expanded by them.
+use Rattle.std.specs.Prelude.{List, [], ◌∷◌, Option, None, Some, Result, Ok, Err, codes}
+use Rattle.iref.specs.{PrefixTable.{PrefixEntry, PrefixesValue, CompactValue, InsertRefusal, ExpandRefusal}, Rules.{Text}}
+use Rattle.iref.specs.PrefixTable.{BadLabel, Taken, NoColon, UnknownLabel, NotAnIri, ascii_table, compact_text, compacted, expanded, inserted}
+use Rattle.iref_batch.specs.Lines.{Answered, read_entry}
+use Rattle.iref_tool.specs.Replies.{Refuses, Reply, WrongWord, and_then, if_iri}
+use Rattle.iref_tool.specs.declared.refusal.Reason.TheVariants as reason
+
+abbrev pub entry : Text
+entry = codes "LABEL=IRI"
+
+-- the table that has taken the entry, or why it has not
+abbrev pub taken : Text → Result PrefixesValue InsertRefusal → Result PrefixesValue WrongWord
+taken word (Ok table) = Ok table
+taken word (Err (BadLabel labels)) = Err (Refuses entry word (reason.Label labels))
+taken word (Err Taken) = Err (Refuses entry word reason.Taken)
+
+abbrev pub with_entry_read : Text → PrefixesValue → Option PrefixEntry → Result PrefixesValue WrongWord
+with_entry_read word table None = Err (Refuses entry word reason.NoEntry)
+with_entry_read word table (Some e) = if_iri entry word e.iri (taken word (inserted e.label e.iri table))
+
+-- the table with the entry of a word
+abbrev pub with_entry : Text → PrefixesValue → Result PrefixesValue WrongWord
+with_entry word table = with_entry_read word table (read_entry word)
+
+-- the table with the entries of words, or the first word that is wrong
+unfoldable pub with_entries : List Text → PrefixesValue → Result PrefixesValue WrongWord
+with_entries [] table = Ok table
+with_entries (word ∷ words) table = and_then (with_entries words) (with_entry word table)
+
+abbrev pub or_no_prefix : Text → Option CompactValue → Reply
+or_no_prefix iri None = Err (Refuses (codes "IRI") iri reason.NoPrefix)
+or_no_prefix iri (Some short) = Ok (Answered (compact_text short))
+
+-- the IRI made short by the entries of words
+abbrev pub compacted_by_words : Text → List Text → Reply
+compacted_by_words iri words = and_then (λ table. or_no_prefix iri (compacted iri table.entries)) (with_entries words (ascii_table []))
+
+abbrev pub or_not_expanded : Text → Result Text ExpandRefusal → Reply
+or_not_expanded text (Ok iri) = Ok (Answered iri)
+or_not_expanded text (Err NoColon) = Err (Refuses (codes "TEXT") text reason.NoColon)
+or_not_expanded text (Err UnknownLabel) = Err (Refuses (codes "TEXT") text reason.UnknownLabel)
+or_not_expanded text (Err NotAnIri) = Err (Refuses (codes "TEXT") text reason.NotAnIri)
+
+-- the IRI that the text stands for by the entries of words
+abbrev pub expanded_by_words : Text → List Text → Reply
+expanded_by_words text words = and_then (λ table. or_not_expanded text (expanded text table.entries)) (with_entries words (ascii_table []))
