@@ -2,3 +2,4 @@ pub mod EditWordLemmas
 pub mod EntryWordLemmas
 pub mod JobLemmas
 pub mod ReplyLemmas
+mod StreamLemmas

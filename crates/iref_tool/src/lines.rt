@@ -1,4 +1,5 @@
 //! The lines of `iref_cli` and those of the examples, each answered by a line.
+ghost use Rattle.std.specs.Prelude.{◌≡◌, [], OnOk};
 
 use crate::examples::{Tables, answer, is_of_examples};
 use crate::input::TakesLines;
@@ -36,7 +37,10 @@ impl<W: Write, E: Write> Lines<W, E> {
     }
 
     // Writes the answers, and answers the lines that are asked.
-    fn settle(&mut self) -> Result<(), StreamError> {
+    fn settle(&mut self) -> Result<(), StreamError>
+        ensures answers { OnOk result (self.new.answers.items ≡ []) }
+        ensures asked { OnOk result (self.new.asked.items ≡ []) }
+    {
         self.progress.hide();
         self.out.put(self.answers.as_slice())?;
         empty(&mut self.answers);
@@ -77,6 +81,15 @@ impl<W: Write, E: Write> Lines<W, E> {
 }
 
 impl<W: Write, E: Write> TakesLines for Lines<W, E> {
+    // This says nothing of the answers: those to lines of the examples have no contract.
+    ghost given = { λ _ _ _. Unit {0} };
+
+    ghost is_settled = { λ lines. (lines.answers.items ≡ []) × (lines.asked.items ≡ []) };
+
+    ghost given_none = { λ _. tt };
+
+    ghost given_more = { λ _ _ _ _ _ _ _. tt };
+
     fn take(&mut self, line: &[u8]) -> Result<(), StreamError> {
         if is_of_examples(line) {
             self.take_example(line)?;

@@ -1,4 +1,7 @@
 //! A job done with each line of inputs: what is answered, and what is said of wrong lines.
+ghost use Rattle.std.specs.Prelude.{◌≡◌, ◌≢◌, [], ◌∷◌, false, Some, OnOk};
+ghost use Rattle.iref_batch.specs.{Gathering.{Gains, Writes}, StdStreams.{inner_of}};
+ghost use Rattle.iref_tool.specs.{StreamLaws.{DoesJob-both, DoesJob-nothing}, Streams.{DoesJob}};
 
 use crate::input::TakesLines;
 use crate::jobs::{Job, LineFault};
@@ -66,7 +69,12 @@ fn push_note(notes: &mut Vec<u8>, note: &Note<'_>) -> Result<(), Memory> {
 
 impl<'a, J: Job, W: Write, E: Write> Texts<'a, J, W, E> {
     /// The job, before the first line.
-    pub fn new(alloc: Global, job: J, out: W, err: E, progress: Progress<E>) -> Self {
+    pub fn new(alloc: Global, job: J, out: W, err: E, progress: Progress<E>) -> Self
+        ensures job { result.job ≡ job }
+        ensures out { inner_of result.out ≡ out }
+        ensures well { result.status ≡ Status.Well }
+        ensures nothing { result.answers.items ≡ [] }
+    {
         Texts {
             job,
             out: FromStd::new(out),
@@ -81,13 +89,21 @@ impl<'a, J: Job, W: Write, E: Write> Texts<'a, J, W, E> {
     }
 
     /// Begins a file.
-    pub fn begin(&mut self, file: &'a str) {
+    pub fn begin(&mut self, file: &'a str)
+        ensures { DoesJob J.outcome J.goes_on J.reports W.contents self.old [] self.new }
+    {
         self.file = file;
         self.number = 0;
     }
 
     // Notes that a line is wrong. Where there is no memory for that, it is said at once.
-    fn note(&mut self, line: &[u8], fault: LineFault) -> Result<(), StreamError> {
+    fn note(&mut self, line: &[u8], fault: LineFault) -> Result<(), StreamError>
+        ensures job { self.new.job ≡ self.old.job }
+        ensures wrong { self.new.status ≢ Status.Well }
+        ensures nothing { OnOk result (J.reports ≡ false → Gains []
+            (W.contents (inner_of self.old.out)) (W.contents (inner_of self.new.out))
+            self.old.answers.items self.new.answers.items) }
+    {
         self.status = self.status.max(Status::Wrong);
         let note = Note {
             file: self.file,
@@ -108,7 +124,13 @@ impl<'a, J: Job, W: Write, E: Write> Texts<'a, J, W, E> {
     }
 
     // Writes what is gathered.
-    fn flush(&mut self) -> Result<(), StreamError> {
+    fn flush(&mut self) -> Result<(), StreamError>
+        ensures job { self.new.job ≡ self.old.job }
+        ensures status { self.new.status ≡ self.old.status }
+        ensures settled { OnOk result (self.new.answers.items ≡ []) }
+        ensures written { OnOk result (Writes self.old.answers.items
+            (W.contents (inner_of self.old.out)) (W.contents (inner_of self.new.out))) }
+    {
         if self.answers.is_empty() && self.notes.is_empty() {
             return Ok(());
         }
@@ -119,19 +141,37 @@ impl<'a, J: Job, W: Write, E: Write> Texts<'a, J, W, E> {
         empty(&mut self.notes);
         Ok(())
     }
-}
 
-impl<J: Job, W: Write, E: Write> TakesLines for Texts<'_, J, W, E> {
-    fn take(&mut self, line: &[u8]) -> Result<(), StreamError> {
+    // Does the job with a line. Where the line is wrong, this is noted.
+    fn answer(&mut self, line: &[u8]) -> Result<(), StreamError>
+        ensures { OnOk result (DoesJob J.outcome J.goes_on J.reports W.contents
+            self.old (Some line.now ∷ []) self.new) }
+    {
         self.number = self.number.saturating_add(1);
         let before = self.answers.len();
         match self.job.answer(line, &mut self.answers) {
-            Ok(()) => {}
+            Ok(()) => Ok(()),
             Err(fault) => {
                 self.answers.truncate(before);
-                self.note(line, fault)?;
+                self.note(line, fault)
             }
         }
+    }
+}
+
+impl<J: Job, W: Write, E: Write> TakesLines for Texts<'_, J, W, E> {
+    ghost given = { λ old lines new.
+        DoesJob J.outcome J.goes_on J.reports W.contents old lines new };
+
+    ghost is_settled = { λ texts. texts.answers.items ≡ [] };
+
+    ghost given_none = { λ s. DoesJob-nothing J.outcome J.goes_on J.reports W.contents s };
+
+    ghost given_more = { λ old mid new lines others.
+        DoesJob-both J.outcome J.goes_on J.reports W.contents old mid new lines others };
+
+    fn take(&mut self, line: &[u8]) -> Result<(), StreamError> {
+        self.answer(line)?;
         if self.answers.len().max(self.notes.len()) >= GATHERED {
             self.flush()?;
         }
