@@ -1,5 +1,5 @@
 pub mod EditWordLemmas
-pub mod EntryWordLemmas
 pub mod JobLemmas
 pub mod ReplyLemmas
 mod StreamLemmas
+pub mod WordListLemmas

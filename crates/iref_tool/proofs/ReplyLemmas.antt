@@ -1,5 +1,4 @@
 -- What the command answers to words.
-use Rattle.std.proofs.{Common.{Bor, ◌+◌, ◌<◌, ◌≤◌, ◌∷◌, ℕ, List, [], arith, drop, length, map, slice_index_or}, lemmas.Grind.{common_steps}}
 use Rattle.std.proofs.Common.{◌≡◌, Bool, Some, None, Result, Ok, Err, ap, sym, subst, ◌∙◌, codes}
 use Rattle.iref.specs.{Characters.{iri_chars}, Contexts.{alone}, Faults.{fault_of_part, fault_of_reference, fault_of_uri}, Rules.{Text}}
 use Rattle.iref.specs.{Guard.{guarded}, NormalList.{normal}, PathValue.{read_path, spell_path}, Reference.{read_reference, spell}}
@@ -8,26 +7,17 @@ use Rattle.iref.proofs.ReferenceCutLemmas.{read_reference-spelled}
 use Rattle.iref_batch.specs.Lines.{Answered, Equal, Normal, Relative, Resolve, ToUri, answer_to, yes_or_no}
 use Rattle.iref_fault.specs.declared.part.PartRule.TheVariants as part
 use Rattle.iref_tool.specs.Commands.{equal_reply, normal_reply, or_no_reference, relative_reply, relativized_reply, resolved_reply, to_uri_reply}
-use Rattle.iref_tool.specs.Replies.{Names, Reply, Returns, Tells, WrongWord, if_iri, if_reference, unless_wrong, wrong_word}
+use Rattle.iref_tool.specs.Replies.{Reply, Returns, Says, Tells, WrongWord, if_iri, if_reference, unless_wrong, wrong_word}
 use Rattle.iref_tool.specs.declared.refusal.{Refusal.{Refusal}, Refusal.TheVariants.{Memory, Word}}
 
-pub tells : {A : Type 0} (read : Result A WrongWord) (refusal : Refusal) → Names read refusal → Tells read refusal
-tells read (Word argument word why) names = names
-tells read Memory names = tt
+pub tells : {A : Type 0} (read : Result A WrongWord) (refusal : Refusal) → Says ⊥ read refusal → Tells read refusal
+tells read (Word argument word why) said = said
+tells read Memory said = tt
 
 -- what is wrong with a part is wrong with the whole
 pub stops : {A B V : Type 0} (shown : V → B) (part : Result A WrongWord) (whole : Result B WrongWord) (result : Result V Refusal) (refusal : Refusal) → result ≡ Err refusal → ((wrong : WrongWord) → part ≡ Err wrong → whole ≡ Err wrong) → Tells part refusal → Returns shown whole result
 stops shown part whole result (Word argument word why) is f told = subst (λ r. Returns shown whole r) (sym is) (f (wrong_word argument.now word.now why) told)
 stops shown part whole result Memory is f told = subst (λ r. Returns shown whole r) (sym is) tt
-
--- the words from an index on
-pub next_word : (words : List (Bor Text)) (i : ℕ) (other : Bor Text) → i < length words → map (λ word. word.now) (drop i words) ≡ (slice_index_or words i other).now ∷ map (λ word. word.now) (drop (i + 1) words)
-next_word words i other under =
-    let dropped : drop i words ≡ slice_index_or words i other ∷ drop (i + 1) words = grind (arith, common_steps) in
-    ap (map (λ word. word.now)) dropped
-
-pub no_word : (words : List (Bor Text)) (i : ℕ) → length words ≤ i → map (λ word. word.now) (drop i words) ≡ []
-no_word words i over = grind (arith, common_steps)
 
 pub normal_said : (word spelled text : Text) → fault_of_part iri_chars part.Path word ≡ None → spelled ≡ word → text ≡ spell_path (guarded alone (normal (read_path spelled))) → normal_reply word ≡ Ok (Answered text)
 unfolding answer_to

@@ -1,12 +1,12 @@
 -- The edits that words name, each a name, or a name, `=` and a value, and what they make of a reference.
-use Rattle.std.specs.Prelude.{List, [], ◌∷◌, Option, None, Some, Result, Ok, Err, bytes_eq, codes, slice_get, unwrap_or}
+use Rattle.std.specs.Prelude.{List, [], ◌∷◌, ◌++◌, Option, None, Some, Result, Ok, Err, bytes_eq, codes, slice_get, unwrap_or}
 use Rattle.std.specs.List.{find}
 use Rattle.iref.specs.{Characters.{iri_chars, uri_chars}, Faults.{FaultValue, fault_of_authority, fault_of_part}, Rules.{Text}, Texts.{before, after}}
 use Rattle.iref.specs.Edits.{EditStep, SetScheme, SetAuthority, ReplaceAuthority, SetUserInfo, SetHost, SetPort, SetPortU32, SetPath, SetAndNormalizePath, SetQuery, SetFragment, LazyPush, Push, JoinPath, Pop, Clear, Normalize, EditsOutcome, edited_all}
 use Rattle.iref.specs.Reference.{ReferenceValue, spell}
 use Rattle.iref_batch.specs.{EditFields.{EditNames}, Lines.{Answered, edit_names, equals_sign}}
 use Rattle.iref_fault.specs.declared.part.PartRule.TheVariants as part
-use Rattle.iref_tool.specs.Replies.{Refuses, Reply, WrongWord, and_then, unless_wrong}
+use Rattle.iref_tool.specs.Replies.{Refuses, Reply, WrongWord, and_then, read_all, unless_wrong}
 use Rattle.iref_tool.specs.declared.refusal.Reason.{Reason}
 use Rattle.iref_tool.specs.declared.refusal.Reason.TheVariants as reason
 
@@ -68,10 +68,13 @@ named_edit names word name value =
 abbrev pub edit_of : Text → Result EditStep WrongWord
 edit_of word = named_edit edit_names word (before (equals_sign ∷ []) word) (after equals_sign word)
 
+-- the edits before, and the one that a word names
+abbrev pub with_edit : List EditStep → Text → Result (List EditStep) WrongWord
+with_edit steps word = and_then (λ step. Ok (steps ++ step ∷ [])) (edit_of word)
+
 -- the edits that words name, or the first word that is wrong
-unfoldable pub edits_of : List Text → Result (List EditStep) WrongWord
-edits_of [] = Ok []
-edits_of (word ∷ words) = and_then (λ step. and_then (λ steps. Ok (step ∷ steps)) (edits_of words)) (edit_of word)
+abbrev pub edits_of : List Text → Result (List EditStep) WrongWord
+edits_of words = read_all with_edit [] words
 
 -- the reference after the edits, or the word of the edit that is refused
 abbrev pub edits_reply : List Text → EditsOutcome → Reply

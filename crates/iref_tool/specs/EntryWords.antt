@@ -1,32 +1,32 @@
 -- The prefix tables of words `LABEL=IRI`, and what is made short and expanded by them.
-use Rattle.std.specs.Prelude.{List, [], ◌∷◌, Option, None, Some, Result, Ok, Err, codes}
+use Rattle.std.specs.Prelude.{List, [], Option, None, Some, Result, Ok, Err, codes}
 use Rattle.iref.specs.{PrefixTable.{PrefixEntry, PrefixesValue, CompactValue, InsertRefusal, ExpandRefusal}, Rules.{Text}}
 use Rattle.iref.specs.PrefixTable.{BadLabel, Taken, NoColon, UnknownLabel, NotAnIri, ascii_table, compact_text, compacted, expanded, inserted}
 use Rattle.iref_batch.specs.Lines.{Answered, read_entry}
-use Rattle.iref_tool.specs.Replies.{Refuses, Reply, WrongWord, and_then, if_iri}
+use Rattle.iref_tool.specs.Replies.{Refuses, Reply, WrongWord, and_then, if_iri, read_all}
 use Rattle.iref_tool.specs.declared.refusal.Reason.TheVariants as reason
 
-abbrev pub entry : Text
-entry = codes "LABEL=IRI"
+-- the argument whose words are entries
+abbrev pub entry_argument : Text
+entry_argument = codes "LABEL=IRI"
 
 -- the table that has taken the entry, or why it has not
 abbrev pub taken : Text → Result PrefixesValue InsertRefusal → Result PrefixesValue WrongWord
 taken word (Ok table) = Ok table
-taken word (Err (BadLabel labels)) = Err (Refuses entry word (reason.Label labels))
-taken word (Err Taken) = Err (Refuses entry word reason.Taken)
+taken word (Err (BadLabel labels)) = Err (Refuses entry_argument word (reason.Label labels))
+taken word (Err Taken) = Err (Refuses entry_argument word reason.Taken)
 
-abbrev pub with_entry_read : Text → PrefixesValue → Option PrefixEntry → Result PrefixesValue WrongWord
-with_entry_read word table None = Err (Refuses entry word reason.NoEntry)
-with_entry_read word table (Some e) = if_iri entry word e.iri (taken word (inserted e.label e.iri table))
+abbrev pub with_entry_read : PrefixesValue → Text → Option PrefixEntry → Result PrefixesValue WrongWord
+with_entry_read table word None = Err (Refuses entry_argument word reason.NoEntry)
+with_entry_read table word (Some e) = if_iri entry_argument word e.iri (taken word (inserted e.label e.iri table))
 
 -- the table with the entry of a word
-abbrev pub with_entry : Text → PrefixesValue → Result PrefixesValue WrongWord
-with_entry word table = with_entry_read word table (read_entry word)
+abbrev pub with_entry : PrefixesValue → Text → Result PrefixesValue WrongWord
+with_entry table word = with_entry_read table word (read_entry word)
 
--- the table with the entries of words, or the first word that is wrong
-unfoldable pub with_entries : List Text → PrefixesValue → Result PrefixesValue WrongWord
-with_entries [] table = Ok table
-with_entries (word ∷ words) table = and_then (with_entries words) (with_entry word table)
+-- the table of the entries of words, or the first word that is wrong
+abbrev pub table_of_words : List Text → Result PrefixesValue WrongWord
+table_of_words words = read_all with_entry (ascii_table []) words
 
 abbrev pub or_no_prefix : Text → Option CompactValue → Reply
 or_no_prefix iri None = Err (Refuses (codes "IRI") iri reason.NoPrefix)
@@ -34,7 +34,7 @@ or_no_prefix iri (Some short) = Ok (Answered (compact_text short))
 
 -- the IRI made short by the entries of words
 abbrev pub compacted_by_words : Text → List Text → Reply
-compacted_by_words iri words = and_then (λ table. or_no_prefix iri (compacted iri table.entries)) (with_entries words (ascii_table []))
+compacted_by_words iri words = and_then (λ table. or_no_prefix iri (compacted iri table.entries)) (table_of_words words)
 
 abbrev pub or_not_expanded : Text → Result Text ExpandRefusal → Reply
 or_not_expanded text (Ok iri) = Ok (Answered iri)
@@ -44,4 +44,4 @@ or_not_expanded text (Err NotAnIri) = Err (Refuses (codes "TEXT") text reason.No
 
 -- the IRI that the text stands for by the entries of words
 abbrev pub expanded_by_words : Text → List Text → Reply
-expanded_by_words text words = and_then (λ table. or_not_expanded text (expanded text table.entries)) (with_entries words (ascii_table []))
+expanded_by_words text words = and_then (λ table. or_not_expanded text (expanded text table.entries)) (table_of_words words)

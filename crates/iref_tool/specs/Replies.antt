@@ -1,5 +1,5 @@
 -- An answer to the words of a command, or which word is wrong.
-use Rattle.std.specs.Prelude.{◌≡◌, ◌-◌, ℕ, length, Option, None, Some, Result, Ok, Err, MatchResult, IsSomeAnd, String, string_bytes, codes}
+use Rattle.std.specs.Prelude.{◌≡◌, ◌-◌, ℕ, List, [], ◌∷◌, length, Option, None, Some, Result, Ok, Err, MatchResult, IsSomeAnd, String, string_bytes, codes}
 use Rattle.iref.specs.{Characters.{iri_chars}, Faults.{FaultValue, fault_of_reference, fault_of_uri}, BytePlaces.{fault_value}, Rules.{Text}}
 use Rattle.iref_batch.specs.Lines.{LineAnswer, Answered}
 use Rattle.iref_tool.specs.declared.refusal.{Reason.{Reason}, Refusal.{Refusal}}
@@ -18,20 +18,23 @@ abbrev pub and_then : {A B : Type 0} → (A → Result B WrongWord) → Result A
 and_then f (Ok read) = f read
 and_then f (Err wrong) = Err wrong
 
+-- what words change one after the other, up to the first that is wrong
+unfoldable pub read_all : {A : Type 0} → (A → Text → Result A WrongWord) → A → List Text → Result A WrongWord
+read_all step read [] = Ok read
+read_all step read (word ∷ words) = and_then (λ more. read_all step more words) (step read word)
+
 -- what a refusal says of a word
 abbrev pub wrong_word : Text → Text → Reason → WrongWord
 wrong_word argument word (reason.Text kind start fault) = NoText argument kind.now word start (fault_value fault)
 wrong_word argument word why = Refuses argument word why
 
--- the refusal says what is wrong, and not that memory was refused
-abbrev pub Names : {A : Type 0} → Result A WrongWord → Refusal → Type 0
-Names read Memory = ⊥
-Names read (Word argument word why) = read ≡ Err (wrong_word argument.now word.now why)
+-- the refusal says what is wrong; or that memory was refused, where that is allowed
+abbrev pub Says : {A : Type 0} → Type 0 → Result A WrongWord → Refusal → Type 0
+Says allowed read Memory = allowed
+Says allowed read (Word argument word why) = read ≡ Err (wrong_word argument.now word.now why)
 
--- the refusal says what is wrong, unless memory was refused
 abbrev pub Tells : {A : Type 0} → Result A WrongWord → Refusal → Type 0
-Tells read Memory = Unit {0}
-Tells read (Word argument word why) = read ≡ Err (wrong_word argument.now word.now why)
+Tells read = Says (Unit {0}) read
 
 -- the call has returned what shows this, or what is wrong; memory may be refused
 abbrev pub Returns : {A V : Type 0} → (V → A) → Result A WrongWord → Result V Refusal → Type 0
@@ -39,7 +42,7 @@ Returns shown read result = MatchResult result (λ v. read ≡ Ok (shown v)) (Te
 
 -- the same, where no memory is requested
 abbrev pub ReadsWord : {A V : Type 0} → (V → A) → Result A WrongWord → Result V Refusal → Type 0
-ReadsWord shown read result = MatchResult result (λ v. read ≡ Ok (shown v)) (Names read)
+ReadsWord shown read result = MatchResult result (λ v. read ≡ Ok (shown v)) (Says ⊥ read)
 
 -- the text is the answer
 abbrev pub IsAnswer : {A : Type 0} → Reply → String A → Type 0

@@ -1,8 +1,9 @@
 //! IRIs made short, and texts expanded, by entries: words `LABEL=IRI`.
-ghost use Rattle.std.specs.Prelude.{[], map};
-ghost use Rattle.iref.specs.{PrefixTable.{PrefixesValue, ascii_table}};
+ghost use Rattle.std.specs.Prelude.{map};
+ghost use Rattle.iref.specs.PrefixTable.{PrefixesValue};
 ghost use Rattle.iref_reference.specs.References.{reference_text};
-ghost use Rattle.iref_tool.specs.EntryWords.{compacted_by_words, expanded_by_words, with_entries, with_entry};
+ghost use Rattle.iref_tool.specs.EntryWords.{compacted_by_words, expanded_by_words};
+ghost use Rattle.iref_tool.specs.EntryWords.{table_of_words, with_entry};
 ghost use Rattle.iref_tool.specs.Replies.{EndsAs, Returns};
 
 use crate::read::iri_at_end;
@@ -17,7 +18,7 @@ const ENTRY: &str = "LABEL=IRI";
 
 // Adds the entry of a word to the table.
 fn insert<'a>(table: &mut Prefixes, word: &'a str) -> Result<(), Refusal<'a>>
-    ensures { Returns (λ _. table.new) (with_entry word.now table.old) result }
+    ensures { Returns (λ _. table.new) (with_entry table.old word.now) result }
 {
     let (label, Some(text)) = cut(word, '=') else {
         return Err(Refusal::Word(ENTRY, word, Reason::NoEntry));
@@ -35,7 +36,7 @@ fn insert<'a>(table: &mut Prefixes, word: &'a str) -> Result<(), Refusal<'a>>
 // The table of the entries.
 fn table_of<'a>(alloc: Global, entries: &[&'a str]) -> Result<Prefixes, Refusal<'a>>
     ensures { Returns (λ (table : PrefixesValue). table)
-        (with_entries (map (λ word. word.now) entries.now) (ascii_table [])) result }
+        (table_of_words (map (λ word. word.now) entries.now)) result }
 {
     let mut table = Prefixes::new(alloc);
     for entry in entries {
