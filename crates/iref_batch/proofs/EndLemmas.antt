@@ -9,8 +9,7 @@ use Rattle.iref_batch.specs.{Lines.{newline, lines_of}, declared.lines.Lines.{Li
 use Rattle.iref_batch.specs.Runs.{IsReply, line_reply, with_newline, with_newlines, AnswersAll, AnswersBegun, EndsEarly}
 use Rattle.iref_batch.specs.Gathering.{IsLine, IsNothing, Holds, Writes, WritesPart, RepliesPart, InRun, BreaksOff}
 use Rattle.iref_batch.proofs.OutputLemmas.{lines_of-cut}
-use Rattle.iref_batch.proofs.LineLemmas.{ended_lines_of, lines_of_lines, lines_of_ended, lines_of_begun, lines_of_next}
-use Rattle.iref_batch.proofs.{ReplyLemmas.{nothing_begun}, RunLemmas.{next_line, line-append}}
+use Rattle.iref_batch.proofs.SeenLemmas.{ended_lines_of_seen, lines_of_all_seen, lines_of_line, lines_of_more, lines_of_seen, no_byte}
 
 answers : List Text → List Text
 answers lines = map (λ line. line_reply line) lines
@@ -39,23 +38,25 @@ begun_with text before contents lines others replies out lost e a d w = record {
 -- a write fails while a line is answered
 pub breaks_at_line : (tail others : Text) (old new : Option Text) (lines : Lines) → IsLine tail → ((line : Text) → Holds lines.begun line → RepliesPart (line ++ tail) old new lines.gathered.bytes.items) → BreaksOff (tail ++ newline ∷ others) old new lines
 breaks_at_line tail others old new lines l f seen before s =
-    let r = f s.line s.kept in
+    let line = s.seen_as.line in
+    let r = f line s.seen_as.kept in
     let q = r.2 (before ++ s.out) s.known in
-    begun_with _ before new (s.ended ++ (s.line ++ tail) ∷ []) (lines_of others) (s.replies ++ r.0 ∷ []) (s.out ++ q.0) q.1
-    (grind (arith, next_line, lines_of_next, line-append))
-    (AllZip-push IsReply s.ended s.replies (s.line ++ tail) r.0 s.answered r.1)
+    begun_with _ before new (s.ended ++ (line ++ tail) ∷ []) (lines_of others) (s.replies ++ r.0 ∷ []) (s.out ++ q.0) q.1
+    (lines_of_line seen s.ended lines.begun s.seen_as tail others l)
+    (AllZip-push IsReply s.ended s.replies (line ++ tail) r.0 s.answered r.1)
     (grind (arith, common_steps, flat_map_more)) (grind (arith, common_steps))
 
 -- a write fails while replies are written
 pub breaks_at_flush : (others : Text) (old new : Option Text) (lines : Lines) → WritesPart lines.gathered.bytes.items old new → BreaksOff others old new lines
 breaks_at_flush others old new lines f seen before s =
     let q = f (before ++ s.out) s.known in
-    begun_with _ before new s.ended (lines_of (s.line ++ others)) s.replies (s.out ++ q.0) q.1
-    (grind (arith, common_steps, lines_of_lines)) s.answered (grind (arith, common_steps)) (grind (arith, common_steps))
+    begun_with _ before new s.ended (lines_of (s.seen_as.line ++ others)) s.replies (s.out ++ q.0) q.1
+    (lines_of_more seen s.ended lines.begun s.seen_as others) s.answered (grind (arith, common_steps)) (grind (arith, common_steps))
 
 -- a newline after a last line that is not empty changes no line
 pub last_line : (seen before : Text) (contents : Option Text) (lines : Lines) → (lines.begun.is_refused ≡ false → is_empty lines.begun.bytes.items ≡ false) → InRun seen before contents lines → lines_of (seen ++ newline ∷ []) ≡ lines_of seen
-last_line seen before contents lines f s = grind (arith, common_steps, lines_of_next, lines_of_begun)
+last_line seen before contents lines f s =
+    grind (arith, common_steps, lines_of_line seen s.ended lines.begun s.seen_as [] [] no_byte, lines_of_all_seen seen s.ended lines.begun s.seen_as f)
 
 pub begun_same : (text same before : Text) (contents : Option Text) → lines_of text ≡ lines_of same → AnswersBegun text before contents → AnswersBegun same before contents
 begun_same text same before contents e a = grind arith
@@ -65,10 +66,15 @@ all_same text same before contents e a = grind arith
 
 -- the replies gathered are written, and no line is begun
 pub all_answered : (seen before : Text) (old new : Option Text) (lines : Lines) → IsNothing lines.begun → Writes lines.gathered.bytes.items old new → InRun seen before old lines → AnswersAll seen before new
-all_answered seen before old new lines n w s = grind (arith, common_steps, nothing_begun, lines_of_ended, w (before ++ s.out) s.known)
+all_answered seen before old new lines n w s = record {
+  replies = s.replies;
+  answered = rw (lines_of_seen seen s.ended lines.begun s.seen_as n) s.answered;
+  written = grind (arith, common_steps, w (before ++ s.out) s.known);
+}
 
 pub ended_answered : (input seen left before : Text) (reader_failed : Bool) (remaining contents : Option Text) (lines : Lines) → (reader_failed ≡ false → 2 ^ 64 - 1 ≤ length seen) → lines.gathered.bytes.items ≡ [] → input ≡ seen ++ left → remaining ≡ Some left → InRun seen before contents lines → EndsEarly input before reader_failed remaining contents
-ended_answered input seen left before reader_failed remaining contents lines many g d r s = grind (arith, common_steps, ended_lines_of)
+ended_answered input seen left before reader_failed remaining contents lines many g d r s =
+    grind (arith, common_steps, ended_lines_of_seen seen s.ended lines.begun s.seen_as)
 
 -- the replies to two inputs, of which the first ends where a line ends, are those to both as one
 pub joined : (first second out more : Text) → AnswersAll (with_newline first) [] (Some out) → AnswersAll second [] (Some more) → AnswersAll (with_newline first ++ second) [] (Some (out ++ more))

@@ -13,5 +13,6 @@ pub mod PrefixAnswerLemmas
 pub mod OutputLemmas
 pub mod ReplyLemmas
 pub mod RunLemmas
+pub mod SeenLemmas
 pub mod Writing
 pub mod WiderLineLemmas

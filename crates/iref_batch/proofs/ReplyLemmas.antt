@@ -1,8 +1,7 @@
 -- Replies gathered and written.
-use Rattle.std.proofs.Common.{◌≡◌, ◌++◌, [], Option, refl, inl, sym, ◌∙◌}
+use Rattle.std.proofs.Common.{◌≡◌, ◌++◌, [], Option, refl, inl}
 use Rattle.iref.specs.Rules.{Text}
-use Rattle.iref_batch.specs.{declared.lines.Begun.{Begun}, Runs.{line_reply, with_newline, IsReply}}
-use Rattle.iref_batch.specs.Gathering.{Writes, WritesPart, Replies, RepliesPart, IsNothing, Holds}
+use Rattle.iref_batch.specs.{Gathering.{Writes, WritesPart, Replies, RepliesPart}, Runs.{line_reply, with_newline, IsReply}}
 use Rattle.iref_batch.proofs.Writing.{gains_gathered, gains_written}
 
 pub answer_gathered : (line : Text) (a : Option Text) (gathered gathered_then : Text) → gathered_then ≡ gathered ++ with_newline (line_reply line) → Replies line a a gathered gathered_then
@@ -13,7 +12,3 @@ reply_written line gathered reply {gathered_then = gathered_then} {a = a} {b = b
 
 pub reply_cut : (line gathered reply : Text) {more : Text} {a b : Option Text} → IsReply line reply → more ≡ gathered ++ with_newline reply → WritesPart more a b → RepliesPart line a b gathered
 reply_cut line gathered reply is e w = (reply, is, rw (← e) w)
-
--- the line begun is empty where no byte of it came in
-pub nothing_begun : (begun : Begun) (line : Text) → IsNothing begun → Holds begun line → line ≡ []
-nothing_begun begun line nothing holds = sym (holds nothing.1) ∙ nothing.0

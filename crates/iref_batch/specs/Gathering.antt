@@ -65,20 +65,24 @@ IsNothing begun = (begun.bytes.items ≡ []) × (begun.is_refused ≡ false)
 abbrev pub Holds : Begun → Text → Type 0
 Holds begun line = begun.is_refused ≡ false → begun.bytes.items ≡ line
 
--- the text seen is lines with a reply each, and the line begun; replies were written or gathered
-pub record InRun (seen before : Text) (contents : Option Text) (lines : Lines) : Type 0 where
-  pub ended : List Text
+-- the text seen is these lines, and the line begun
+pub record SeenAs (seen : Text) (ended : List Text) (begun : Begun) : Type 0 where
   pub line : Text
-  pub replies : List Text
-  pub out : Text
   pub seen_is : seen ≡ with_newlines ended ++ line
   pub are_lines : All IsLine ended
   pub is_line : IsLine line
+  pub kept : Holds begun line
+  pub some : begun.is_refused ≡ true → is_empty line ≡ false
+
+-- the lines seen have a reply each, which was written or gathered
+pub record InRun (seen before : Text) (contents : Option Text) (lines : Lines) : Type 0 where
+  pub ended : List Text
+  pub replies : List Text
+  pub out : Text
+  pub seen_as : SeenAs seen ended lines.begun
   pub answered : AllZip IsReply ended replies
   pub known : contents ≡ Some (before ++ out)
   pub out_is : out ++ lines.gathered.bytes.items ≡ with_newlines replies
-  pub kept : Holds lines.begun line
-  pub some : lines.begun.is_refused ≡ true → is_empty line ≡ false
 
 -- a run that has seen some text sees more of it
 abbrev pub SeesMore : Text → Option Text → Option Text → Lines → Lines → Type 0

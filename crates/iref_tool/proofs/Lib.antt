@@ -1,5 +1,6 @@
 pub mod EditWordLemmas
 pub mod JobLemmas
+pub mod JobRunLemmas
 pub mod ReplyLemmas
 mod StreamLemmas
 pub mod WordListLemmas

@@ -14,12 +14,16 @@ pub data Outcome : Type 0 where
   Refused : FaultValue → Outcome
   Unreached : Outcome
 
--- the call has added the text; where it says that the line has none, or that memory was refused, it may have added a part
+-- the fault is that of the line; memory may be refused for any
+abbrev pub IsFaultOf : Outcome → LineFault → Type 0
+IsFaultOf outcome (Invalid fault) = outcome ≡ Refused (fault_value fault)
+IsFaultOf outcome NoReference = outcome ≡ Unreached
+IsFaultOf outcome Memory = Unit {0}
+
+-- the call has added the text; or it has returned the fault, and may have added a part
 abbrev pub EndsBy : Outcome → Text → Text → Result (Unit {0}) LineFault → Type 0
 EndsBy outcome old new (Ok _) = (text : Text) × (outcome ≡ Written text) × (new ≡ old ++ text)
-EndsBy outcome old new (Err (Invalid fault)) = (outcome ≡ Refused (fault_value fault)) × Extends old new
-EndsBy outcome old new (Err NoReference) = (outcome ≡ Unreached) × Extends old new
-EndsBy outcome old new (Err Memory) = Extends old new
+EndsBy outcome old new (Err fault) = IsFaultOf outcome fault × Extends old new
 
 -- what is made of a line in its rule; of another its fault
 abbrev pub unless_fault : Option FaultValue → Outcome → Outcome

@@ -2,7 +2,7 @@
 //! is empty.
 ghost use Rattle.std.specs.Prelude.{◌≡◌, List, [], ◌∷◌, ◌++◌, Option, Some, None, OnOk};
 ghost use Rattle.iref.specs.Rules.{Text};
-ghost use Rattle.iref_batch.specs.Gathering.{IsNothing};
+ghost use Rattle.iref_batch.specs.{Gathering.{IsNothing}, Lines.{lines_of}};
 ghost use Rattle.iref_tool.specs.Streams.{GivesAll, GivesBeginning, GivesLine, GivesLines, InInput, OnReadError};
 ghost use Rattle.iref_tool.specs.Streams.{ReadsMore};
 ghost use Rattle.iref_tool.specs.declared.input.Failure.TheVariants as why;
@@ -106,7 +106,8 @@ fn take_block<T: TakesLines>(begun: &mut Begun, block: &[u8], to: &mut T) -> Res
 // Gives away the last line, if it is not empty.
 fn end_input<T: TakesLines>(begun: &mut Begun, to: &mut T) -> Result<(), StreamError>
     ensures lines { OnOk result ((seen : Text) (first : _) →
-        InInput T.given seen begun.old first to.old → GivesLines T.given seen first to.new) }
+        InInput T.given seen begun.old first to.old →
+        GivesLines T.given (lines_of seen) first to.new) }
     ensures settled { OnOk result (T.is_settled to.new) }
 {
     if begun.is_empty() {

@@ -1,7 +1,7 @@
 //! What is done with each line of an input that is one text.
 ghost use Rattle.std.specs.{List.Sorted.{IsPermutation, IsSorted, IsStable}, Ordering.{on}};
 ghost use Rattle.std.specs.Prelude.{◌≡◌, ◌++◌, [], Option, None, Some, IfOk, MatchResult, OnErr, OnOk, false, map};
-ghost use Rattle.std.specs.Prelude.{Bool, IsTrue, if◌then◌else◌, true};
+ghost use Rattle.std.specs.Prelude.{if◌then◌else◌};
 ghost use Rattle.hex.specs.Hex.{encode_lower};
 ghost use Rattle.iref.specs.{Canonical.{canonical_text}, Characters.{iri_chars}, Faults.{fault_of_reference}};
 ghost use Rattle.iref.specs.{Key.{key, key_cmp}, Lists.{key_of_text}, Rules.{Text}, SortKey.{sort_key}};
@@ -56,21 +56,11 @@ pub trait Job {
     /// How it goes on after a line that it has answered, and after another.
     ghost goes_on: { Self → Option Text → Self → Type 0 } = { λ old _ new. new ≡ old };
 
-    /// Whether what is wrong may go where answers go.
-    ghost reports: { Bool } = { false };
-
     /// Adds what is written for the line.
     fn answer(&mut self, line: &[u8], out: &mut Vec<u8>) -> Result<(), LineFault>
         ensures outcome { EndsBy (outcome self.old line.now) out.old.items out.new.items result }
         ensures next { MatchResult result (λ _. goes_on self.old (Some line.now) self.new)
             (λ _. goes_on self.old None self.new) };
-
-    /// Whether what is wrong is the answer, and goes where answers go.
-    fn is_report(&self) -> bool
-        ensures { IsTrue result → reports ≡ true }
-    {
-        false
-    }
 }
 
 impl From<Fault> for LineFault {
@@ -127,8 +117,6 @@ impl Job for Check {
     ghost outcome = { λ check line.
         unless_fault (fault_in check.uri check.absolute line) (Written []) };
 
-    ghost reports = { true };
-
     fn answer(&mut self, line: &[u8], _out: &mut Vec<u8>) -> Result<(), LineFault> {
         let fault = match (self.uri, self.absolute) {
             (false, false) => IriRef::fault_of_bytes(line),
@@ -140,12 +128,6 @@ impl Job for Check {
             None => Ok(()),
             Some(fault) => Err(LineFault::Invalid(fault)),
         }
-    }
-
-    fn is_report(&self) -> bool
-        ensures { IsTrue result }
-    {
-        true
     }
 }
 

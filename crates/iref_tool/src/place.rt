@@ -1,4 +1,6 @@
 //! Where a text is wrong, and why, as a person reads it.
+ghost use Rattle.iref.specs.BytePlaces.{fault_value};
+ghost use Rattle.iref_tool.specs.Notes.{why_text};
 
 use iref::{Cause, Fault};
 use iref_fault::fault::component_name;
@@ -10,6 +12,8 @@ use unicode_width::UnicodeWidthStr;
 pub struct Why(pub Fault);
 
 impl fmt::Display for Why {
+    ghost output = { λ why. why_text (fault_value why.0) };
+
     fn fmt<W: fmt::Write>(&self, f: &mut fmt::Formatter<W>) -> fmt::Result {
         match self.0.cause() {
             Cause::NoScheme => f.write_str("no scheme"),

@@ -1,4 +1,8 @@
 //! What the words ask for, done.
+ghost use Rattle.std.specs.Prelude.{◌≡◌, List, IfSome, OnOk, fold, map, max};
+ghost use Rattle.iref.specs.Rules.{Text};
+ghost use Rattle.iref_batch.specs.{Lines.{lines_of}, Runs.{ended_lines}, Statuses.{number_of}};
+ghost use Rattle.iref_tool.specs.{JobRuns.{DoesFiles, DoesJob}, Streams.{GivesFile, GivesLines, OnReadError}};
 
 use crate::examples::Tables;
 use crate::input::{Failure, TakesLines, each_line};
@@ -18,7 +22,7 @@ use iref_batch::{FromStd, StreamError};
 use std::fs;
 use std::hash::RandomState;
 use std::io::{self, BufWriter, ErrorKind, IsTerminal, Write};
-use std::rt::Stderr;
+use std::rt::{Stderr, Stdout};
 
 /// The status where an output has failed. Nothing is said where nobody reads it any more.
 pub fn output_failed(rt: &HostRuntime, error: &io::Error, status: Status) -> Status {
@@ -80,7 +84,12 @@ fn progress_of(rt: &HostRuntime, files: &[&str]) -> Progress<Stderr> {
 }
 
 // Gives each line of a file away; `-` is standard input.
-fn each_line_of<T: TakesLines>(rt: &HostRuntime, file: &str, to: &mut T) -> Result<(), Failure> {
+fn each_line_of<T: TakesLines>(rt: &HostRuntime, file: &str, to: &mut T) -> Result<(), Failure>
+    ensures lines { OnOk result
+        ((text : Text) × GivesLines T.given (lines_of text) to.old to.new) }
+    ensures cut { OnReadError result
+        ((text : Text) × GivesLines T.given (ended_lines text) to.old to.new) }
+{
     if file == "-" {
         return each_line(rt.alloc(), &mut rt.stdin(), to);
     }
@@ -88,7 +97,9 @@ fn each_line_of<T: TakesLines>(rt: &HostRuntime, file: &str, to: &mut T) -> Resu
 }
 
 // Gives each line of a file away, and says why it cannot be read.
-fn read_file<T: TakesLines>(rt: &HostRuntime, file: &str, to: &mut T) -> Option<Status> {
+fn read_file<T: TakesLines>(rt: &HostRuntime, file: &str, to: &mut T) -> Option<Status>
+    ensures { IfSome result (λ status. GivesFile T.given status to.old to.new) }
+{
     let read = each_line_of(rt, file, to);
     to.make_room();
     match read {
@@ -101,26 +112,63 @@ fn read_file<T: TakesLines>(rt: &HostRuntime, file: &str, to: &mut T) -> Option<
     }
 }
 
+// The worse of two.
+fn worse(status: Status, other: Status) -> Status
+    ensures { number_of result ≡ max (number_of status) (number_of other) }
+{
+    status.max(other)
+}
+
 // Does a job with each line of the files: the status, unless a write failed.
 fn each_text<'a, J: Job, W: Write, E: Write>(
     rt: &HostRuntime,
     files: &[&'a str],
     texts: &mut Texts<'a, J, W, E>,
-) -> Option<Status> {
+) -> Option<Status>
+    ensures { IfSome result (λ status. (statuses : List Status)
+        × DoesFiles (λ old lines new. DoesJob J.outcome J.goes_on W.contents old lines new)
+        files.now statuses texts.old texts.new
+        × (number_of status ≡ fold max 0 (map number_of statuses))) }
+{
     let mut status = Status::Well;
     for file in files {
         texts.begin(*file);
-        status = status.max(read_file(rt, *file, texts)?);
+        status = worse(status, read_file(rt, *file, texts)?);
     }
     Some(status)
 }
 
-// Does a job with each line of the files.
-fn do_each<J: Job + Drop>(rt: &HostRuntime, job: J, files: &[&str]) -> Status {
+// A job, before the files are read.
+fn texts_of<'a, J: Job>(
+    rt: &HostRuntime,
+    job: J,
+    files: &[&'a str],
+) -> Texts<'a, J, Stdout, Stderr> {
     let progress = progress_of(rt, files);
-    let mut texts = Texts::new(rt.alloc(), job, rt.stdout(), rt.stderr(), progress);
+    Texts::new(rt.alloc(), job, rt.stdout(), rt.stderr(), progress)
+}
+
+// Does the job with each line of the files, and ends the output.
+fn finish<'a, J: Job + Drop>(
+    rt: &HostRuntime,
+    texts: Texts<'a, J, Stdout, Stderr>,
+    files: &[&'a str],
+) -> Status {
+    let mut texts = texts;
     let status = each_text(rt, files, &mut texts).unwrap_or(Status::Well);
     ended(rt, &texts.out, status.max(texts.status))
+}
+
+// Does a job with each line of the files.
+fn do_each<J: Job + Drop>(rt: &HostRuntime, job: J, files: &[&str]) -> Status {
+    finish(rt, texts_of(rt, job, files), files)
+}
+
+// Finds the wrong lines of the files. Their notes are the answer.
+fn check(rt: &HostRuntime, job: Check, files: &[&str]) -> Status {
+    let mut texts = texts_of(rt, job, files);
+    texts.reports = true;
+    finish(rt, texts, files)
 }
 
 // Writes the lines.
@@ -134,8 +182,7 @@ fn put_lines<W: Write>(lines: &[IriRef<'_>], out: &mut FromStd<W>) -> Result<(),
 
 // Sorts the lines of the files.
 fn sort(rt: &HostRuntime, files: &[&str]) -> Status {
-    let (job, progress) = (Sort::new(rt.alloc()), progress_of(rt, files));
-    let mut texts = Texts::new(rt.alloc(), job, rt.stdout(), rt.stderr(), progress);
+    let mut texts = texts_of(rt, Sort::new(rt.alloc()), files);
     let status = each_text(rt, files, &mut texts).unwrap_or(Status::Well);
     let status = status.max(texts.status);
     let writer = BufWriter::with_capacity(rt.alloc(), GATHERED, rt.stdout());
@@ -196,7 +243,7 @@ fn run_words<'m, 'w: 'm>(
         ("check", _) => {
             let uri = matches.get_flag("uri");
             let absolute = matches.get_flag("absolute");
-            do_each(rt, Check { uri, absolute }, files)
+            check(rt, Check { uri, absolute }, files)
         }
         ("canonical", _) => do_each(rt, Canonical::new(alloc, keep), files),
         ("key", _) => do_each(rt, Key(keep), files),

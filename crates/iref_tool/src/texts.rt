@@ -1,14 +1,15 @@
 //! A job done with each line of inputs: what is answered, and what is said of wrong lines.
-ghost use Rattle.std.specs.Prelude.{◌≡◌, ◌≢◌, [], ◌∷◌, false, Some, OnOk};
-ghost use Rattle.iref_batch.specs.{Gathering.{Gains, Writes}, StdStreams.{inner_of}};
-ghost use Rattle.iref_tool.specs.{StreamLaws.{DoesJob-both, DoesJob-nothing}, Streams.{DoesJob}};
+ghost use Rattle.std.specs.Prelude.{◌≡◌, ◌≢◌, [], ◌∷◌, ◌++◌, false, Some, IfSome, OnErr, OnOk};
+ghost use Rattle.iref_batch.specs.{Gathering.{Gains, Writes}, Runs.{with_newline}, StdStreams.{inner_of}};
+ghost use Rattle.iref_tool.specs.{JobRuns.{DoesJob, StaysAt}, Notes.{fault_note, note_text, text_for_wrong}};
+ghost use Rattle.iref_tool.specs.JobRunLaws.{DoesJob-both, DoesJob-nothing};
 
 use crate::input::TakesLines;
 use crate::jobs::{Job, LineFault};
 use crate::place::Why;
 use crate::progress::Progress;
 use iref::Memory;
-use iref_batch::buffer::{GATHERED, empty};
+use iref_batch::buffer::{GATHERED, empty, push_line};
 use iref_batch::columns::column;
 use iref_batch::status::Status;
 use iref_batch::{FromStd, StreamError};
@@ -25,12 +26,37 @@ pub struct Texts<'a, J, W, E> {
     pub out: FromStd<W>,
     /// The status of the program.
     pub status: Status,
+    /// The file that is read.
+    pub file: &'a str,
+    /// How many of its lines came in, or `u64::MAX` of more.
+    pub number: u64,
+    /// Whether notes of wrong lines go where answers go; else they go to standard error.
+    pub reports: bool,
+    /// What is to be written where answers go.
+    pub answers: Vec<u8>,
     err: E,
     progress: Progress<E>,
-    answers: Vec<u8>,
+    // Notes that go to standard error, and a note as it is made.
     notes: Vec<u8>,
-    file: &'a str,
-    number: u64,
+    made: Vec<u8>,
+}
+
+// What is wrong with a line, behind its number.
+#[derive(Clone, Copy)]
+struct LineWhy<'a>(&'a [u8], LineFault);
+
+impl fmt::Display for LineWhy<'_> {
+    ghost output = { λ why. fault_note why.0.now why.1 };
+
+    fn fmt<W: fmt::Write>(&self, f: &mut fmt::Formatter<W>) -> fmt::Result {
+        match self.1 {
+            LineFault::Invalid(fault) => {
+                write!(f, "{}: {}", column(self.0, fault.at()), Why(fault))
+            }
+            LineFault::NoReference => f.write_str(" no reference resolves to this text"),
+            LineFault::Memory => f.write_str(" out of memory"),
+        }
+    }
 }
 
 // What is said of a wrong line.
@@ -43,28 +69,26 @@ struct Note<'a> {
 }
 
 impl fmt::Display for Note<'_> {
+    ghost output = { λ note. note_text note.file.now note.number note.line.now note.fault };
+
     fn fmt<W: fmt::Write>(&self, f: &mut fmt::Formatter<W>) -> fmt::Result {
-        write!(f, "{}:{}:", self.file, self.number)?;
-        match self.fault {
-            LineFault::Invalid(fault) => {
-                write!(f, "{}: {}", column(self.line, fault.at()), Why(fault))
-            }
-            LineFault::NoReference => f.write_str(" no reference resolves to this text"),
-            LineFault::Memory => f.write_str(" out of memory"),
-        }
+        let why = LineWhy(self.line, self.fault);
+        write!(f, "{}:{}:{why}", self.file, self.number)
     }
 }
 
-// Adds a line for what is wrong. Out of memory, it returns `Memory` and adds nothing.
-fn push_note(notes: &mut Vec<u8>, note: &Note<'_>) -> Result<(), Memory> {
-    let before = notes.len();
-    match writeln!(notes, "{note}") {
-        Ok(()) => Ok(()),
-        Err(_) => {
-            notes.truncate(before);
-            Err(Memory)
-        }
+// Adds a line for what is wrong, which is made in the buffer. Out of memory, it returns `Memory` and
+// adds nothing.
+fn push_note(made: &mut Vec<u8>, notes: &mut Vec<u8>, note: &Note<'_>) -> Result<(), Memory>
+    ensures ok { OnOk result (IfSome (note_text note.now.file.now note.now.number note.now.line.now
+        note.now.fault) (λ text. notes.new.items ≡ notes.old.items ++ with_newline text)) }
+    ensures err { OnErr result (notes.new.items ≡ notes.old.items) }
+{
+    made.clear();
+    if write!(made, "{note}").is_err() {
+        return Err(Memory);
     }
+    push_line(notes, made.as_slice())
 }
 
 impl<'a, J: Job, W: Write, E: Write> Texts<'a, J, W, E> {
@@ -74,23 +98,26 @@ impl<'a, J: Job, W: Write, E: Write> Texts<'a, J, W, E> {
         ensures out { inner_of result.out ≡ out }
         ensures well { result.status ≡ Status.Well }
         ensures nothing { result.answers.items ≡ [] }
+        ensures reports { result.reports ≡ false }
     {
         Texts {
             job,
             out: FromStd::new(out),
             status: Status::Well,
-            err,
-            progress,
-            answers: Vec::new(alloc),
-            notes: Vec::new(alloc),
             file: "-",
             number: 0,
+            reports: false,
+            answers: Vec::new(alloc),
+            err,
+            progress,
+            notes: Vec::new(alloc),
+            made: Vec::new(alloc),
         }
     }
 
     /// Begins a file.
     pub fn begin(&mut self, file: &'a str)
-        ensures { DoesJob J.outcome J.goes_on J.reports W.contents self.old [] self.new }
+        ensures { self.new ≡ record self.old { file = file.entry; number = 0 } }
     {
         self.file = file;
         self.number = 0;
@@ -99,10 +126,12 @@ impl<'a, J: Job, W: Write, E: Write> Texts<'a, J, W, E> {
     // Notes that a line is wrong. Where there is no memory for that, it is said at once.
     fn note(&mut self, line: &[u8], fault: LineFault) -> Result<(), StreamError>
         ensures job { self.new.job ≡ self.old.job }
+        ensures place { StaysAt self.old self.new }
         ensures wrong { self.new.status ≢ Status.Well }
-        ensures nothing { OnOk result (J.reports ≡ false → Gains []
+        ensures said { OnOk result (IfSome (text_for_wrong self.old.reports self.old.file.now
+            self.old.number line.now fault) (λ text. Gains text
             (W.contents (inner_of self.old.out)) (W.contents (inner_of self.new.out))
-            self.old.answers.items self.new.answers.items) }
+            self.old.answers.items self.new.answers.items)) }
     {
         self.status = self.status.max(Status::Wrong);
         let note = Note {
@@ -111,12 +140,12 @@ impl<'a, J: Job, W: Write, E: Write> Texts<'a, J, W, E> {
             line,
             fault,
         };
-        if self.job.is_report() {
-            if push_note(&mut self.answers, &note).is_err() {
+        if self.reports {
+            if push_note(&mut self.made, &mut self.answers, &note).is_err() {
                 self.flush()?;
                 self.out.print(&note)?;
             }
-        } else if push_note(&mut self.notes, &note).is_err() {
+        } else if push_note(&mut self.made, &mut self.notes, &note).is_err() {
             self.flush()?;
             let _ = writeln!(self.err, "{note}");
         }
@@ -126,6 +155,7 @@ impl<'a, J: Job, W: Write, E: Write> Texts<'a, J, W, E> {
     // Writes what is gathered.
     fn flush(&mut self) -> Result<(), StreamError>
         ensures job { self.new.job ≡ self.old.job }
+        ensures place { StaysAt self.old self.new }
         ensures status { self.new.status ≡ self.old.status }
         ensures settled { OnOk result (self.new.answers.items ≡ []) }
         ensures written { OnOk result (Writes self.old.answers.items
@@ -144,7 +174,7 @@ impl<'a, J: Job, W: Write, E: Write> Texts<'a, J, W, E> {
 
     // Does the job with a line. Where the line is wrong, this is noted.
     fn answer(&mut self, line: &[u8]) -> Result<(), StreamError>
-        ensures { OnOk result (DoesJob J.outcome J.goes_on J.reports W.contents
+        ensures { OnOk result (DoesJob J.outcome J.goes_on W.contents
             self.old (Some line.now ∷ []) self.new) }
     {
         self.number = self.number.saturating_add(1);
@@ -161,14 +191,14 @@ impl<'a, J: Job, W: Write, E: Write> Texts<'a, J, W, E> {
 
 impl<J: Job, W: Write, E: Write> TakesLines for Texts<'_, J, W, E> {
     ghost given = { λ old lines new.
-        DoesJob J.outcome J.goes_on J.reports W.contents old lines new };
+        DoesJob J.outcome J.goes_on W.contents old lines new };
 
     ghost is_settled = { λ texts. texts.answers.items ≡ [] };
 
-    ghost given_none = { λ s. DoesJob-nothing J.outcome J.goes_on J.reports W.contents s };
+    ghost given_none = { λ s. DoesJob-nothing J.outcome J.goes_on W.contents s };
 
     ghost given_more = { λ old mid new lines others.
-        DoesJob-both J.outcome J.goes_on J.reports W.contents old mid new lines others };
+        DoesJob-both J.outcome J.goes_on W.contents old mid new lines others };
 
     fn take(&mut self, line: &[u8]) -> Result<(), StreamError> {
         self.answer(line)?;

@@ -1,6 +1,6 @@
 use Rattle.std.proofs.Common.{◌∷◌, ◌++◌, [], refl, append-nil, sym, ap, ◌∙◌}
 use Rattle.iref_batch.specs.Lines.{newline, lines_of}
-use Rattle.iref_batch.proofs.{Writing.{on_err}, RunLemmas.{no_byte}, EndLemmas.{last_line, begun_same}}
+use Rattle.iref_batch.proofs.{Writing.{on_err}, EndLemmas.{last_line, begun_same}, SeenLemmas.{no_byte}}
 use Rattle.iref_batch.proofs.lines.Lines.end_last.Goals as goal
 
 pub end_line-requires-clause-line : goal.end_line-requires-clause-line

@@ -1,6 +1,6 @@
 use Rattle.std.proofs.Common.{◌++◌, inr, refl}
 use Rattle.iref_batch.specs.Runs.{memory_refused}
-use Rattle.iref_batch.proofs.{Writing.{on_err}, ReplyLemmas.{nothing_begun, reply_cut, reply_written}}
+use Rattle.iref_batch.proofs.{Writing.{on_err}, ReplyLemmas.{reply_cut, reply_written}, SeenLemmas.{nothing_begun}}
 use Rattle.iref_batch.proofs.lines.Lines.reply.Goals as goal
 
 pub returns-in_err-reply-clause-cut : goal.returns-in_err-reply-clause-cut

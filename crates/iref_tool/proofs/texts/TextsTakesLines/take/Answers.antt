@@ -1,9 +1,9 @@
 use Rattle.std.proofs.Common.{[], ◌∷◌, Some}
-use Rattle.iref_tool.specs.StreamLaws.{DoesJob-both}
-use Rattle.iref_tool.proofs.StreamLemmas.{job_flushed}
+use Rattle.iref_tool.specs.JobRunLaws.{DoesJob-both}
+use Rattle.iref_tool.proofs.JobRunLemmas.{job_flushed}
 use Rattle.iref_tool.proofs.texts.TextsTakesLines.take.Goals as goal
 
 pub returns-in_ok-flush : goal.returns-in_ok-flush
 returns-in_ok-flush g c =
-    DoesJob-both g.J.Job.outcome g.J.Job.goes_on g.J.Job.reports g.W.Write.contents _ _ _ (Some c.args.line.now ∷ []) [] c.in_ok-answer.ensures
-    (job_flushed c.in_ok-flush.ensures.job c.in_ok-flush.ensures.status c.in_ok-flush.ensures.settled c.in_ok-flush.ensures.written)
+    DoesJob-both g.J.Job.outcome g.J.Job.goes_on g.W.Write.contents _ _ _ (Some c.args.line.now ∷ []) [] c.in_ok-answer.ensures
+    (job_flushed c.in_ok-flush.ensures.job c.in_ok-flush.ensures.status c.in_ok-flush.ensures.place c.in_ok-flush.ensures.settled c.in_ok-flush.ensures.written)

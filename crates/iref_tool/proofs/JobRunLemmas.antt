@@ -1,0 +1,145 @@
+-- What a job has written for a line, and for files.
+use Rattle.std.proofs.Common.{◌≡◌, ◌+◌, ◌<◌, ℕ, Bool, true, false, List, [], ◌∷◌, ◌++◌, Option, Some, None, IfSome, ap, arith, fold, length, map, max, option_map, refl, slice_index_or, subst, sym, take, ◌∙◌, inl, inr, append-nil}
+use Rattle.std.proofs.{lemmas.Grind.{common_steps}, lemmas.List.{map-append}, lemmas.List.Sums.{fold-append}}
+use Rattle.std.specs.{Borrow.{Bor}, Fmt.{with_newline as with_end}, Io.KnownBytes.{Appends}}
+use Rattle.iref.specs.Rules.{Text}
+use Rattle.iref_batch.specs.{Gathering.{Gains, Writes}, Runs.{with_newline}, Statuses.{number_of}, StdStreams.{inner_of}}
+use Rattle.iref_batch.specs.declared.status.{Status.{Status}, Status.TheVariants.{Well}}
+use Rattle.iref_batch.proofs.Writing.{gains_gathered, gains_written, writes_from_appends, writes_more}
+use Rattle.iref_tool.specs.JobRuns.{DoesFiles, DoesJob, StaysAt, all_text, next_number}
+use Rattle.iref_tool.specs.{Jobs.{IsFaultOf, Outcome, Written}, Notes.{note_text, text_for_wrong}, Streams.{GivesFile}}
+use Rattle.iref_tool.specs.declared.{jobs.LineFault.{LineFault}, jobs.LineFault.TheVariants.{Memory}, texts.Texts.{Texts}}
+
+-- what holds of a known text
+if_last : (P : Text → Type 0) (text : Option Text) → IfSome text P → IfSome (all_text (text ∷ [])) P
+if_last P None p = tt
+if_last P (Some text) p = subst P (sym (append-nil text)) p
+
+if_known : (P Q : Text → Type 0) (text : Option Text) → ((known : Text) → P known → Q known) → IfSome text P → IfSome text Q
+if_known P Q None f p = tt
+if_known P Q (Some text) f p = f text p
+
+if_mapped : (P : Text → Type 0) (f : Text → Text) (text : Option Text) → IfSome text (λ t. P (f t)) → IfSome (option_map f text) P
+if_mapped P f None p = tt
+if_mapped P f (Some text) p = p
+
+if_ended : (P : Text → Type 0) (text : Option Text) → IfSome (with_end text) P → IfSome text (λ t. P (with_newline t))
+if_ended P None p = tt
+if_ended P (Some text) p = p
+
+-- what stands among the answers for a wrong line was gathered or written
+module _ (reports : Bool) (file : Text) (number : ℕ) (line : Text) (fault : LineFault) (before after : Option Text) (gathered gathered_then : Text) where
+  abbrev pub IsSaid : Type 0
+  IsSaid = IfSome (text_for_wrong reports file number line fault) (λ text. Gains text before after gathered gathered_then)
+
+  said_by : (reported : Bool) → reports ≡ reported → IfSome (text_for_wrong reported file number line fault) (λ text. Gains text before after gathered gathered_then) → IsSaid
+  said_by reported is said = rw is said
+
+  -- the note goes elsewhere, and what was gathered is written
+  pub not_said_written : reports ≡ false → gathered_then ≡ [] → Writes gathered before after → IsSaid
+  not_said_written elsewhere none written = said_by false elsewhere (gains_written [] before after gathered gathered_then none (rw append-nil written))
+
+  -- what was gathered is written, and the note after it
+  pub said_printed : (mid : Option Text) → reports ≡ true → Writes gathered before mid → gathered_then ≡ [] → IfSome (with_end (note_text file number line fault)) (Appends mid after) → IsSaid
+  said_printed mid here written none printed =
+      let note = note_text file number line fault in
+      said_by true here (if_mapped (λ text. Gains text before after gathered gathered_then) with_newline note
+      (if_known (λ t. Appends mid after (with_newline t)) (λ t. Gains (with_newline t) before after gathered gathered_then) note
+      (λ t p. gains_written (with_newline t) before after gathered gathered_then none (writes_more gathered (with_newline t) before mid after written (writes_from_appends (with_newline t) mid after p)))
+      (if_ended (Appends mid after) note printed)))
+
+module _ {J W E : Type 0} {outcome : J → Text → Outcome} {goes_on : J → Option Text → J → Type 0} {contents : W → Option Text} {old new : Texts J W E} where
+  -- nothing changed of what contracts speak of
+  pub job_kept : new.job ≡ old.job → new.status ≡ old.status → StaysAt old new → new.out ≡ old.out → new.answers.items ≡ old.answers.items → DoesJob outcome goes_on contents old [] new
+  job_kept job status place out answers = record {
+    texts = [];
+    does = job;
+    stays_well = λ (w : new.status ≡ Well). cc;
+    gains = rw out (gains_gathered [] (contents (inner_of old.out)) old.answers.items new.answers.items (answers ∙ sym (append-nil old.answers.items)));
+    file = place.0;
+    numbers = place.1;
+    reports = place.2;
+  }
+
+  -- what was gathered is written
+  pub job_flushed : new.job ≡ old.job → new.status ≡ old.status → StaysAt old new → new.answers.items ≡ [] → Writes old.answers.items (contents (inner_of old.out)) (contents (inner_of new.out)) → DoesJob outcome goes_on contents old [] new
+  job_flushed job status place none written = record {
+    texts = [];
+    does = job;
+    stays_well = λ (w : new.status ≡ Well). cc;
+    gains = gains_written [] (contents (inner_of old.out)) (contents (inner_of new.out)) old.answers.items new.answers.items none (rw append-nil written);
+    file = place.0;
+    numbers = place.1;
+    reports = place.2;
+  }
+
+  -- the job has answered a line
+  pub line_answered : (line text : Text) → outcome old.job line ≡ Written text → goes_on old.job (Some line) new.job → new.status ≡ old.status → new.file ≡ old.file → new.number ≡ next_number old.number → new.reports ≡ old.reports → new.out ≡ old.out → new.answers.items ≡ old.answers.items ++ text → DoesJob outcome goes_on contents old (Some line ∷ []) new
+  line_answered line text is goes status file number reports out answers = record {
+    texts = Some text ∷ [];
+    does = (new.job, inl (text, is, refl, goes), refl);
+    stays_well = λ (w : new.status ≡ Well). cc;
+    gains = rw (out, append-nil) (gains_gathered text (contents (inner_of old.out)) old.answers.items new.answers.items answers);
+    file = file;
+    numbers = number;
+    reports = reports;
+  }
+
+-- the same, where the state is known
+abbrev pub IsSaidOf : {J W E : Type 0} → (W → Option Text) → Text → LineFault → Texts J W E → Texts J W E → Type 0
+IsSaidOf contents line fault now new =
+    IsSaid now.reports now.file.now now.number line fault (contents (inner_of now.out)) (contents (inner_of new.out)) now.answers.items new.answers.items
+
+-- a line came in that is wrong
+module _ {J W E : Type 0} (contents : W → Option Text) (line : Text) (fault : LineFault) (old now new : Texts J W E) (file : now.file ≡ old.file) (number : now.number ≡ next_number old.number) (reports : now.reports ≡ old.reports) (out : now.out ≡ old.out) (answers : now.answers.items ≡ old.answers.items) (said : IsSaidOf contents line fault now new) where
+  abbrev pub said_of : Option Text
+  said_of = text_for_wrong old.reports old.file.now (next_number old.number) line fault
+
+  said_now : text_for_wrong now.reports now.file.now now.number line fault ≡ said_of
+  said_now = λ i. text_for_wrong (reports i) (file i).now (number i) line fault
+
+  gains_said : IfSome (all_text (said_of ∷ [])) (λ text. Gains text (contents (inner_of old.out)) (contents (inner_of new.out)) old.answers.items new.answers.items)
+  gains_said = if_last _ said_of (rw (← said_now, ← out, ← answers) said)
+
+  module _ (outcome : J → Text → Outcome) (goes_on : J → Option Text → J → Type 0) (place : StaysAt now new) (wrong : new.status ≡ Well → ⊥) where
+    pub line_wrong : IsFaultOf (outcome old.job line) fault → goes_on old.job None new.job → DoesJob outcome goes_on contents old (Some line ∷ []) new
+    line_wrong is goes = record {
+      texts = said_of ∷ [];
+      does = (new.job, inr (fault, is, refl, wrong, goes), refl);
+      stays_well = λ (w : new.status ≡ Well). absurd (wrong w);
+      gains = gains_said;
+      file = place.0 ∙ file;
+      numbers = place.1 ∙ number;
+      reports = place.2 ∙ reports;
+    }
+
+    -- memory was refused for the line
+    pub line_refused : line ≡ [] → fault ≡ Memory → new.job ≡ old.job → DoesJob outcome goes_on contents old (None ∷ []) new
+    line_refused none memory same = record {
+      texts = said_of ∷ [];
+      does = (new.job, (wrong, same, λ i. text_for_wrong old.reports old.file.now (next_number old.number) (none i) (memory i)), refl);
+      stays_well = λ (w : new.status ≡ Well). absurd (wrong w);
+      gains = gains_said;
+      file = place.0 ∙ file;
+      numbers = place.1 ∙ number;
+      reports = place.2 ∙ reports;
+    }
+
+module _ {J W E : Type 0} (given : Texts J W E → List (Option Text) → Texts J W E → Type 0) where
+  pub DoesFiles-push : (files : List (Bor Text)) (statuses : List Status) (file : Bor Text) (status : Status) (old mid new : Texts J W E) → DoesFiles given files statuses old mid → GivesFile given status (record mid { file = file; number = 0 }) new → DoesFiles given (files ++ file ∷ []) (statuses ++ status ∷ []) old new
+  DoesFiles-push [] [] file status old mid new d g = (new, subst (λ t. GivesFile given status (record t { file = file; number = 0 }) new) d g, refl)
+  DoesFiles-push [] (s ∷ statuses) file status old mid new d g = absurd d
+  DoesFiles-push (f ∷ files) [] file status old mid new d g = absurd d
+  DoesFiles-push (f ∷ files) (s ∷ statuses) file status old mid new d g = (d.0, d.1, DoesFiles-push files statuses file status d.0 mid new d.2 g)
+
+  -- the files before the index were read, and then the one at it
+  pub one_more_file : (files : List (Bor Text)) (i : ℕ) (other : Bor Text) → i < length files → (statuses : List Status) (status : Status) (old mid begun new : Texts J W E) → DoesFiles given (take i files) statuses old mid → begun ≡ record mid { file = slice_index_or files i other; number = 0 } → GivesFile given status begun new → DoesFiles given (take (i + 1) files) (statuses ++ status ∷ []) old new
+  one_more_file files i other under statuses status old mid begun new d b g =
+      let taken : take i files ++ slice_index_or files i other ∷ [] ≡ take (i + 1) files = grind (arith, common_steps) in
+      subst (λ read. DoesFiles given read (statuses ++ status ∷ []) old new) taken
+      (DoesFiles-push (take i files) statuses (slice_index_or files i other) status old mid new d (subst (λ t. GivesFile given status t new) b g))
+
+pub worst_more : (statuses : List Status) (status now new : Status) → number_of now ≡ fold max 0 (map number_of statuses) → number_of new ≡ max (number_of now) (number_of status) → number_of new ≡ fold max 0 (map number_of (statuses ++ status ∷ []))
+worst_more statuses status now new e f =
+    f ∙ ap (λ n. max n (number_of status)) e ∙ sym (fold-append max 0 (map number_of statuses) (number_of status ∷ []))
+    ∙ ap (fold max 0) (sym (map-append number_of statuses (status ∷ [])))
