@@ -41,7 +41,8 @@ impl<'a, C: CharSet> Authority<'a, C> {
         parts_of(self.as_str())
     }
 
-    /// The user info, if there is one: what stands before the first `@`.
+    /// The user info (RFC 3986 section 3.2.1), if there is one: what stands before the first `@`.
+    /// Of `u@h:80` it is `u`, of `h` None.
     pub fn user_info(&self) -> Option<UserInfo<'a, C>>
         ensures { option_map text_of result ≡ (read_authority (text_of self.now)).user_info }
     {
@@ -55,7 +56,8 @@ impl<'a, C: CharSet> Authority<'a, C> {
         self.parts().host
     }
 
-    /// The port, if there is one: what follows the `:` after the host.
+    /// The port (RFC 3986 section 3.2.3), if there is one: what follows the `:` after the host. Of
+    /// `u@h:80` it is `80`, of `h` None.
     pub fn port(&self) -> Option<Port<'a>>
         ensures { option_map text_of result ≡ (read_authority (text_of self.now)).port }
     {
@@ -79,7 +81,8 @@ impl<C: CharSet> AuthorityBuf<C> {
         parts_of(self.as_str())
     }
 
-    /// The user info, if there is one: what stands before the first `@`.
+    /// The user info (RFC 3986 section 3.2.1), if there is one: what stands before the first `@`.
+    /// Of `u@h:80` it is `u`, of `h` None.
     pub fn user_info(&self) -> Option<UserInfo<'_, C>>
         ensures { option_map text_of result ≡ (read_authority (text_of self.now)).user_info }
     {
@@ -93,7 +96,8 @@ impl<C: CharSet> AuthorityBuf<C> {
         self.parts().host
     }
 
-    /// The port, if there is one: what follows the `:` after the host.
+    /// The port (RFC 3986 section 3.2.3), if there is one: what follows the `:` after the host. Of
+    /// `u@h:80` it is `80`, of `h` None.
     pub fn port(&self) -> Option<Port<'_>>
         ensures { option_map text_of result ≡ (read_authority (text_of self.now)).port }
     {
@@ -150,7 +154,7 @@ impl<C: CharSet> AuthorityBuf<C> {
     }
 
     /// Replaces, adds or removes the user info with its `@`; removing takes no memory: `u@h`
-    /// without a user info is `h`.
+    /// without a user info is `h`. Out of memory, it returns `Memory` and changes nothing.
     pub fn set_user_info(&mut self, user_info: Option<UserInfo<'_, C>>) -> Result<(), Memory>
         ensures edit { EditsOwner (with_user_info (option_map text_of user_info.entry))
             self.old self.new result }
@@ -168,7 +172,7 @@ impl<C: CharSet> AuthorityBuf<C> {
     }
 
     /// Replaces, adds or removes the port with its `:`; removing takes no memory: `h:80` without a
-    /// port is `h`.
+    /// port is `h`. Out of memory, it returns `Memory` and changes nothing.
     pub fn set_port(&mut self, port: Option<Port<'_>>) -> Result<(), Memory>
         ensures edit { EditsOwner (with_port (option_map text_of port.entry))
             self.old self.new result }
@@ -187,7 +191,8 @@ impl<C: CharSet> AuthorityBuf<C> {
         self.as_authority_mut().set_port_u32(port)
     }
 
-    /// Does as `replace` does with a text: `Invalid` holds a text that is not an authority.
+    /// Does as `replace` does with a text: `Invalid` holds a text that is not an authority, such as
+    /// `h:8a`. An `Err` changes nothing.
     pub fn try_replace<'t>(&mut self, authority: &'t str) -> Tried<InvalidAuthority<&'t str>>
         ensures ok { OnOk result (text_of self.new ≡ authority.now) }
         ensures text { Tests (IsAuthority C.tests) authority.entry (λ error. error.0) result }
@@ -196,7 +201,8 @@ impl<C: CharSet> AuthorityBuf<C> {
         self.as_authority_mut().try_replace(authority)
     }
 
-    /// Does as `set_user_info` does with a text: `Invalid` holds a text that is not a user info.
+    /// Does as `set_user_info` does with a text: `Invalid` holds a text that is not a user info,
+    /// such as `a@b`. An `Err` changes nothing.
     pub fn try_set_user_info<'t>(
         &mut self,
         user_info: Option<&'t str>,
@@ -208,7 +214,8 @@ impl<C: CharSet> AuthorityBuf<C> {
         self.as_authority_mut().try_set_user_info(user_info)
     }
 
-    /// Does as `set_host` does with a text: `Invalid` holds a text that is not a host.
+    /// Does as `set_host` does with a text: `Invalid` holds a text that is not a host, such as
+    /// `a:b`. An `Err` changes nothing.
     pub fn try_set_host<'t>(&mut self, host: &'t str) -> Tried<InvalidHost<&'t str>>
         ensures edit { EditsOwner (with_host host.now) self.old self.new result }
         ensures text { Tests (IsHost C.tests) host.entry (λ error. error.0) result }
@@ -216,7 +223,8 @@ impl<C: CharSet> AuthorityBuf<C> {
         self.as_authority_mut().try_set_host(host)
     }
 
-    /// Does as `set_port` does with a text: `Invalid` holds a text that is not a port.
+    /// Does as `set_port` does with a text: `Invalid` holds a text that is not a port, such as
+    /// `8a`. An `Err` changes nothing.
     pub fn try_set_port<'t>(&mut self, port: Option<&'t str>) -> Tried<InvalidPort<&'t str>>
         ensures edit { EditsOwner (with_port (option_copied port.entry)) self.old self.new result }
         ensures text { TestsIfSome IsPort port.entry (λ error. error.0) result }

@@ -56,10 +56,10 @@ fn host_range<C: CharSet>(text: &str) -> Range<usize>
     start..start + slices.host.len()
 }
 
-/// The editor of an authority that stands in a vector of bytes, or in another text that it borrows:
-/// of `//h:80/x` the bytes from 2 up to and without 6 are edited to `//h/x` by a port of `None`. It
-/// knows where the authority stands, in bytes, and its end moves with each edit; a refused edit
-/// changes nothing.
+/// The editor of an authority that stands in a vector of bytes, or in another text that it borrows
+/// (RFC 3986 section 3.2): at the bytes from 2 up to and without 6 of `//h:80/x`, `set_port` with
+/// None leaves `//h/x`. It knows where the authority stands, in bytes, and its end moves with each
+/// edit; a refused edit changes nothing.
 #[derive(Drop)]
 pub struct AuthorityMut<'a, C: CharSet, T: Target<AuthorityPart, C> = Vec<u8>> {
     target: &'a mut T,
@@ -116,7 +116,7 @@ impl<'a, C: CharSet, T: Target<AuthorityPart, C>> AuthorityMut<'a, C, T> {
     ghost use Rattle.iref_component.specs.AuthorityEdits.{Borrows, edited_bytes, LiesInBytes, authority_mut_start};
     ghost use Rattle.iref_component.specs.AuthorityEdits.{authority_mut_end, authority_mut_text, Edits, EditsTo};
 
-    /// The editor of the authority in a range of what holds it.
+    /// The editor of the authority in a range of what holds it: of `//h:80/x` that at 2 to 6.
     pub fn of_target(target: &'a mut T, range: Range<usize>) -> Self
         requires { T.stands (T.text target.old) tt range.start range.end }
         ensures same_reference { Borrows result target.entry.ghost_name }
@@ -200,7 +200,8 @@ impl<'a, C: CharSet, T: Target<AuthorityPart, C>> AuthorityMut<'a, C, T> {
     }
 
     /// Replaces, adds or removes the user info with its `@`; removing takes no memory: `u@h`
-    /// without a user info is `h`, and with an empty one `@h`.
+    /// without a user info is `h`, and with an empty one `@h`. Out of memory, it returns `Memory`
+    /// and changes nothing.
     pub fn set_user_info(&mut self, user_info: Option<UserInfo<'_, C>>) -> Result<(), Memory>
         ensures edit { Edits (with_user_info (option_map text_of user_info.entry))
             self.old self.new result }
@@ -210,7 +211,8 @@ impl<'a, C: CharSet, T: Target<AuthorityPart, C>> AuthorityMut<'a, C, T> {
         self.put(0..host.start, marked_after(text_of(user_info), "@"))
     }
 
-    /// Replaces the host: of `u@h:80` what stands before the `:80` and after the `u@`.
+    /// Replaces the host (RFC 3986 section 3.2.2): `u@h:80` with `g` becomes `u@g:80`. Out of
+    /// memory, it returns `Memory` and changes nothing.
     pub fn set_host(&mut self, host: Host<'_, C>) -> Result<(), Memory>
         ensures { Edits (with_host (text_of host.entry)) self.old self.new result }
     {
@@ -219,7 +221,8 @@ impl<'a, C: CharSet, T: Target<AuthorityPart, C>> AuthorityMut<'a, C, T> {
     }
 
     /// Replaces, adds or removes the port with its `:`; removing takes no memory: `h:80` without a
-    /// port is `h`, and with an empty one `h:`.
+    /// port is `h`, and with an empty one `h:`. Out of memory, it returns `Memory` and changes
+    /// nothing.
     pub fn set_port(&mut self, port: Option<Port<'_>>) -> Result<(), Memory>
         ensures edit { Edits (with_port (option_map text_of port.entry))
             self.old self.new result }
@@ -244,7 +247,8 @@ impl<'a, C: CharSet, T: Target<AuthorityPart, C>> AuthorityMut<'a, C, T> {
         }
     }
 
-    /// Does as `replace` does with a text: `Invalid` holds a text that is not an authority.
+    /// Does as `replace` does with a text: `Invalid` holds a text that is not an authority, such as
+    /// `h:8a`. An `Err` changes nothing.
     pub fn try_replace<'t>(&mut self, authority: &'t str) -> Tried<InvalidAuthority<&'t str>>
         ensures edit { Edits (λ _. read_authority authority.now) self.old self.new result }
         ensures text { Tests (IsAuthority C.tests) authority.entry (λ error. error.0) result }
@@ -253,7 +257,8 @@ impl<'a, C: CharSet, T: Target<AuthorityPart, C>> AuthorityMut<'a, C, T> {
         self.replace(authority).or(Err(TryError::Memory))
     }
 
-    /// Does as `set_user_info` does with a text: `Invalid` holds a text that is not a user info.
+    /// Does as `set_user_info` does with a text: `Invalid` holds a text that is not a user info,
+    /// such as `a@b`. An `Err` changes nothing.
     pub fn try_set_user_info<'t>(
         &mut self,
         user_info: Option<&'t str>,
@@ -267,7 +272,8 @@ impl<'a, C: CharSet, T: Target<AuthorityPart, C>> AuthorityMut<'a, C, T> {
             .or(Err(TryError::Memory))
     }
 
-    /// Does as `set_host` does with a text: `Invalid` holds a text that is not a host.
+    /// Does as `set_host` does with a text: `Invalid` holds a text that is not a host, such as
+    /// `a:b`. An `Err` changes nothing.
     pub fn try_set_host<'t>(&mut self, host: &'t str) -> Tried<InvalidHost<&'t str>>
         ensures edit { Edits (with_host host.now) self.old self.new result }
         ensures text { Tests (IsHost C.tests) host.entry (λ error. error.0) result }
@@ -276,7 +282,8 @@ impl<'a, C: CharSet, T: Target<AuthorityPart, C>> AuthorityMut<'a, C, T> {
         self.set_host(host).or(Err(TryError::Memory))
     }
 
-    /// Does as `set_port` does with a text: `Invalid` holds a text that is not a port.
+    /// Does as `set_port` does with a text: `Invalid` holds a text that is not a port, such as
+    /// `8a`. An `Err` changes nothing.
     pub fn try_set_port<'t>(&mut self, port: Option<&'t str>) -> Tried<InvalidPort<&'t str>>
         ensures edit { Edits (with_port (option_copied port.entry)) self.old self.new result }
         ensures text { TestsIfSome IsPort port.entry (λ error. error.0) result }

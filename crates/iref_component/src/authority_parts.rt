@@ -35,7 +35,8 @@ impl<C: CharSet> Clone for AuthorityParts<'_, C> {
     }
 }
 
-/// The parts of a text that is known to be an authority, as slices of it.
+/// The parts of a text that is known to be an authority, as slices of it: of `u@h:80` they are `u`,
+/// `h` and `80`.
 #[tactic(auto, unfolding(iref_grammar::specs::Authority::is_authority, iref_grammar::specs::Authority::has_authority_parts))]
 pub fn parts_of<C: CharSet>(text: &str) -> AuthorityParts<'_, C>
     requires { is_authority C.tests text.now ≡ true }

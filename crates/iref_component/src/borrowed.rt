@@ -78,7 +78,8 @@ impl<'a, R: Rule, C: CharSet> BorrowedText<'a, R, C> {
     }
 }
 
-/// The borrowed text of a slice that is known to be in the rule, if it is there.
+/// The borrowed text of a slice that is known to be in the rule, if it is there: of `80` the port
+/// `80`.
 pub fn borrowed_of<R: Rule, C: CharSet>(text: Option<&str>) -> Option<BorrowedText<'_, R, C>>
     requires { none_or (R.test C.tests) (option_copied text) ≡ true }
     ensures { option_map text_of result ≡ option_copied text.entry }
@@ -86,7 +87,7 @@ pub fn borrowed_of<R: Rule, C: CharSet>(text: Option<&str>) -> Option<BorrowedTe
     Some(BorrowedText::new_unchecked(text?))
 }
 
-/// The slice of a borrowed text, if it is there.
+/// The slice of a borrowed text, if it is there: of the port `80` the text `80`.
 pub fn text_of<'a, R: Rule, C: CharSet>(view: Option<BorrowedText<'a, R, C>>) -> Option<&'a str>
     ensures text { option_copied result ≡ option_map text_of view.entry }
     ensures in_rule { none_or (R.test C.tests) (option_copied result) ≡ true }

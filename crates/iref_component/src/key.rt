@@ -24,13 +24,13 @@ pub trait Key {
     /// The texts that have a key: all, where an impl does not say.
     ghost has_key: { CharTests → Text → Type 0 } = { λ _ _. Unit {0} };
 
-    /// The order of the keys.
+    /// The order of the keys: of the schemes `HTTP` and `http` it is `Equal`.
     fn compare<C: CharSet>(a: &str, b: &str) -> Ordering
         requires a { has_key C.tests a.now }
         requires b { has_key C.tests b.now }
         ensures { result ≡ comparison.order (comparison.key a.now) (comparison.key b.now) };
 
-    /// Whether the keys are the same.
+    /// Whether the keys are the same: those of the schemes `HTTP` and `http` are.
     fn is_equal<C: CharSet>(a: &str, b: &str) -> bool
         requires a { has_key C.tests a.now }
         requires b { has_key C.tests b.now }
@@ -40,7 +40,7 @@ pub trait Key {
         Self::compare::<C>(a, b).is_eq()
     }
 
-    /// Feeds the key to the hasher.
+    /// Feeds the key to the hasher: the schemes `HTTP` and `http` feed the same bytes.
     fn feed<C: CharSet, H: Hasher>(text: &str, state: &mut H)
         requires { has_key C.tests text.now }
         ensures { state.new ≡ fold H.write state.old (comparison.fed (comparison.key text.now)) };

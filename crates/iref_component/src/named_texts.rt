@@ -169,14 +169,14 @@ impl Scheme<'static> {
 
 #[tactic(auto, unfolding(iref_grammar::specs::Tests::is_port))]
 impl Port<'static> {
-    /// The port of the scheme `http`.
+    /// The port of the scheme `http`: `80`.
     pub fn http() -> Self
         ensures { text_of result ≡ codes "80" }
     {
         Port::new_unchecked("80")
     }
 
-    /// The port of the scheme `https`.
+    /// The port of the scheme `https`: `443`.
     pub fn https() -> Self
         ensures { text_of result ≡ codes "443" }
     {

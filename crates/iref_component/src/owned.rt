@@ -106,7 +106,8 @@ impl<R: Rule, C: CharSet> TextBuf<R, C> {
 }
 
 impl<R: AllowsEmpty, C: CharSet> TextBuf<R, C> {
-    /// The empty text, where the rule takes it, as `QueryBuf::empty`. It takes no memory.
+    /// The empty text, where the rule takes it: `QueryBuf::empty` makes the query of `a?`. It takes
+    /// no memory.
     pub fn empty(alloc: Global) -> Self
         ensures { text_of result ≡ [] }
     {

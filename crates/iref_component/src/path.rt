@@ -41,14 +41,14 @@ impl<S: Storage, C: CharSet> RuleText<S, PathRule, C> {
         split_root(self.as_borrowed().as_str()).1.is_none()
     }
 
-    /// Whether the path begins with `/`.
+    /// Whether the path begins with `/`: `/a` does, `a` does not.
     pub fn is_absolute(&self) -> bool
         ensures { result ≡ (path_value self.now).absolute }
     {
         split_root(self.as_borrowed().as_str()).0
     }
 
-    /// Whether the path does not begin with `/`.
+    /// Whether the path does not begin with `/`: `a` and the empty path are relative, `/a` is not.
     pub fn is_relative(&self) -> bool
         ensures { result ≡ not (path_value self.now).absolute }
     {
@@ -79,7 +79,8 @@ impl<S: Storage, C: CharSet> RuleText<S, PathRule, C> {
     }
 
     /// Appends the text of the normalized path to a vector: with `a/../b:c`, `ok` becomes `ok./b:c`
-    /// (RFC 3986 section 5.2.4). Memory is requested once.
+    /// (RFC 3986 section 5.2.4). Memory is requested once: out of memory, it returns `Memory` and
+    /// changes nothing.
     pub fn append_normalized_to(&self, out: &mut Vec<u8>) -> Result<(), Memory>
         ensures ok { OnOk result (out.new.items
             ≡ out.old.items ++ spell_path (step.normalized alone (path_value self.now))) }
@@ -91,6 +92,7 @@ impl<S: Storage, C: CharSet> RuleText<S, PathRule, C> {
     /// What is left of the path after a prefix, as a relative path: of `/foo/bar` after `/foo` it
     /// is `bar`, of `//foo` after `/` it is `.//foo`. None where the normal segments of the prefix
     /// are not a beginning of the path's, after decoding, or where only one of both is absolute.
+    /// Out of memory, it returns `Memory`, but None takes no memory.
     pub fn suffix(&self, alloc: Global, prefix: Path<'_, C>) -> Result<Option<PathBuf<C>>, Memory>
         ensures suffix { IfOk result
             (SpellsSuffix (path_value prefix.entry) (path_value self.now)) }
@@ -104,7 +106,8 @@ impl<S: Storage, C: CharSet> RuleText<S, PathRule, C> {
         }
     }
 
-    /// Whether what stands before the first `:` is a scheme (RFC 3986 section 4.2).
+    /// Whether what stands before the first `:` is a scheme (RFC 3986 section 4.2): in `a:b/c` it
+    /// is, in `a/b:c` it is not.
     pub fn looks_like_scheme(&self) -> bool
         ensures { result ≡ function.looks_like_scheme (text_of self.now) }
     {
@@ -183,8 +186,8 @@ impl<'a, C: CharSet> Path<'a, C> {
         if last.is_empty() { None } else { Some(last) }
     }
 
-    /// All up to and with the last `/` (RFC 3986 section 5.2.3): the empty path where there is
-    /// none.
+    /// All up to and with the last `/` (RFC 3986 section 5.2.3): of `/foo/bar`, `/foo/`; of `foo`,
+    /// which has none, the empty path.
     pub fn directory(&self) -> Self
         ensures text { text_of result ≡ function.directory_text (text_of self.now) }
         ensures value { path_value result ≡ function.directory (path_value self.now) }

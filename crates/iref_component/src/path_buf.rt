@@ -84,8 +84,8 @@ impl<C: CharSet> PathBuf<C> {
         self.as_path().file_name()
     }
 
-    /// All up to and with the last `/` (RFC 3986 section 5.2.3): the empty path where there is
-    /// none.
+    /// All up to and with the last `/` (RFC 3986 section 5.2.3): of `/foo/bar`, `/foo/`; of `foo`,
+    /// which has none, the empty path.
     pub fn directory(&self) -> Path<'_, C>
         ensures text { text_of result ≡ function.directory_text (text_of self.now) }
         ensures value { path_value result ≡ function.directory (path_value self.now) }
@@ -163,9 +163,10 @@ impl<C: CharSet> PathBuf<C> {
         self.as_path_mut().lazy_push(segment)
     }
 
-    /// Appends a segment, but follows dots (RFC 3986 section 5.2.4): `.` closes the path with a
-    /// `/`, and `..` removes the last segment and closes the path, so that `foo/bar` becomes
-    /// `foo/`.
+    /// Appends a segment, but follows dots (RFC 3986 section 5.2.4). `.` appends an empty segment
+    /// where there are segments: `foo` becomes `foo/`, `foo/` becomes `foo//`, and `/` and the
+    /// empty path stay. `..` does as `pop` does and then as `.` does, so that `foo/bar` becomes
+    /// `foo/`. Out of memory, it returns `Memory` and changes nothing.
     pub fn push(&mut self, segment: Segment<'_, C>) -> Result<(), Memory>
         ensures { EditsOwner (step.pushed alone (text_of segment.entry))
             self.old self.new result }
@@ -173,9 +174,9 @@ impl<C: CharSet> PathBuf<C> {
         self.as_path_mut().push(segment)
     }
 
-    /// Removes the last segment. A path that ends in `..`, or a relative one without segments, gains
-    /// a `..`.
-    /// `//a` becomes `/./`.
+    /// Removes the last segment: `/a/b` becomes `/a`, and `//a` becomes `/./`. A path that ends in
+    /// `..`, or a relative one without segments, gains a `..`. Out of memory, it returns `Memory`
+    /// and changes nothing.
     pub fn pop(&mut self) -> Result<(), Memory>
         ensures { EditsOwner (step.popped alone) self.old self.new result }
     {
@@ -201,8 +202,9 @@ impl<C: CharSet> PathBuf<C> {
         self.as_path_mut().replace(path)
     }
 
-    /// Replaces the path by its normal form, guarded where that is needed (RFC 3986 section 5.2.4).
-    /// Memory is taken only where that path is longer, such as `./a:b` for `a:b`.
+    /// Replaces the path by its normal form, guarded where that is needed (RFC 3986 section 5.2.4):
+    /// `a/..//b` becomes `.//b`. Memory is taken only where that path is longer, such as `./a:b`
+    /// for `a:b`. Out of memory, it returns `Memory` and changes nothing.
     pub fn normalize(&mut self) -> Result<(), Memory>
         ensures edit { EditsOwner (step.normalized alone) self.old self.new result }
         ensures shorter { length (spell_path (step.normalized alone (path_value self.old)))
@@ -211,15 +213,16 @@ impl<C: CharSet> PathBuf<C> {
         self.as_path_mut().normalize()
     }
 
-    /// Removes all segments, so that the path is `/` or empty.
+    /// Removes all segments: `/a/b` becomes `/`, and `a/b` becomes the empty path.
     pub fn clear(&mut self)
         ensures { SpellsPath self.new (step.cleared (path_value self.old)) }
     {
         self.as_path_mut().clear();
     }
 
-    /// Appends each segment as it is. The iterator is asked up to its first `None`. At an `Err` the
-    /// segments before the refused one stand.
+    /// Appends each segment as it is: `..` and `b` after `/a` give `/a/../b`. The iterator is asked
+    /// up to its first `None`. Out of memory, it returns `Memory`, and the segments before the
+    /// refused one stand.
     pub fn lazy_append<'s, I>(&mut self, segments: I) -> Result<(), Memory>
     where
         I: IntoIterator<Item = Segment<'s, C>>,
@@ -232,8 +235,9 @@ impl<C: CharSet> PathBuf<C> {
     }
 
     /// Appends each segment as `push` does, and closes the path after a last `.` or `..`: `..` and
-    /// `baz` after `/foo/bar` give `/foo/baz`. The iterator is asked up to its first `None`. At an
-    /// `Err` the segments before the refused one stand, and the path is not closed.
+    /// `baz` after `/foo/bar` give `/foo/baz`. The iterator is asked up to its first `None`. Out of
+    /// memory, it returns `Memory`: the segments before the refused one stand, and the path is not
+    /// closed.
     pub fn append<'s, I>(&mut self, segments: I) -> Result<(), Memory>
     where
         I: IntoIterator<Item = Segment<'s, C>>,
@@ -246,7 +250,8 @@ impl<C: CharSet> PathBuf<C> {
     }
 
     /// Replaces the path by an absolute one, or appends the segments of a relative one: `../b`
-    /// after `/x/a` gives `/x/b`. This is one edit, so an `Err` changes nothing.
+    /// after `/x/a` gives `/x/b`. This is one edit: out of memory, it returns `Memory` and changes
+    /// nothing.
     pub fn join(&mut self, path: Path<'_, C>) -> Result<(), Memory>
         ensures { EditsOwner (step.joined alone (path_value path.entry)) self.old self.new result }
     {
@@ -254,7 +259,7 @@ impl<C: CharSet> PathBuf<C> {
     }
 
     /// The path that pushing these segments one by one on the empty or the absolute path gives:
-    /// absolute and `a`, `b`, `..` is `/a/`.
+    /// absolute and `a`, `b`, `..` is `/a/`. Out of memory, it returns `Memory`.
     pub fn from_segments<'s, I: IntoIterator<Item = Segment<'s, C>> + Drop>(
         alloc: Global,
         absolute: bool,
@@ -273,7 +278,8 @@ impl<C: CharSet> PathBuf<C> {
     }
 
     /// Appends a text as a segment, as it is: `a` with `..` becomes `a/..`. `Invalid` holds a text
-    /// that is no segment, such as `b/c`.
+    /// that is no segment, such as `b/c`. Out of memory, it returns `Memory`; an `Err` changes
+    /// nothing.
     pub fn try_lazy_push<'t>(&mut self, segment: &'t str) -> Tried<InvalidSegment<&'t str>>
         ensures edit { EditsOwner (step.lazy_pushed alone segment.now) self.old self.new result }
         ensures text { Tests (IsSegment C.tests) segment.entry (λ error. error.0) result }
@@ -281,7 +287,9 @@ impl<C: CharSet> PathBuf<C> {
         self.as_path_mut().try_lazy_push(segment)
     }
 
-    /// Appends a text as a segment, but follows dots, as `push` does.
+    /// Appends a text as a segment, but follows dots, as `push` does: `foo/bar` with `..` becomes
+    /// `foo/`. `Invalid` holds a text that is no segment, such as `b/c`. Out of memory, it returns
+    /// `Memory`; an `Err` changes nothing.
     pub fn try_push<'t>(&mut self, segment: &'t str) -> Tried<InvalidSegment<&'t str>>
         ensures edit { EditsOwner (step.pushed alone segment.now) self.old self.new result }
         ensures text { Tests (IsSegment C.tests) segment.entry (λ error. error.0) result }
@@ -289,8 +297,10 @@ impl<C: CharSet> PathBuf<C> {
         self.as_path_mut().try_push(segment)
     }
 
-    /// Appends each text as a segment, as it is. The iterator is asked up to its first `None`. At
-    /// an `Err` the segments before the refused text stand.
+    /// Appends each text as a segment, as it is. The iterator is asked up to its first `None`.
+    /// `Invalid` holds a text that is no segment, and `Memory` says that memory ran out. At an
+    /// `Err` the segments before the refused text stand: `b`, `..` and `c/d` after `/a` are refused
+    /// at `c/d`, and leave `/a/b/..`.
     pub fn try_lazy_append<'t, I>(&mut self, segments: I) -> Tried<InvalidSegment<&'t str>>
     where
         I: IntoIterator<Item = &'t str>,
@@ -303,9 +313,10 @@ impl<C: CharSet> PathBuf<C> {
     }
 
     /// Appends each text as a segment, and closes the path after a last `.` or `..`, as `append`
-    /// does. The iterator is asked up to its first `None`. At an `Err` the segments before the
-    /// refused text stand, and the path is not closed: `b`, `c`, `..` and `c/d` after `/a` are
-    /// refused at `c/d`, and leave `/a/b`.
+    /// does. The iterator is asked up to its first `None`. `Invalid` holds a text that is no
+    /// segment, and `Memory` says that memory ran out. At an `Err` the segments before the refused
+    /// text stand, and the path is not closed: `b`, `c`, `..` and `c/d` after `/a` are refused at
+    /// `c/d`, and leave `/a/b`.
     pub fn try_append<'t, I>(&mut self, segments: I) -> Tried<InvalidSegment<&'t str>>
     where
         I: IntoIterator<Item = &'t str>,
@@ -317,8 +328,9 @@ impl<C: CharSet> PathBuf<C> {
         self.as_path_mut().try_append(segments)
     }
 
-    /// Replaces the path by that of a text, with a guard where it would be read as something else:
-    /// alone, `x` by `1:2` is `./1:2`. `Invalid` holds a text that is no path, such as `a?b`.
+    /// Replaces the path by that of a text, as `replace` does: alone, `x` by `1:2` is `./1:2`.
+    /// `Invalid` holds a text that is no path, such as `a?b`. Out of memory, it returns `Memory`;
+    /// an `Err` changes nothing.
     pub fn try_replace<'t>(&mut self, path: &'t str) -> Tried<InvalidPath<&'t str>>
         ensures edit { EditsOwner (step.replaced alone (read_path path.now))
             self.old self.new result }
@@ -327,7 +339,9 @@ impl<C: CharSet> PathBuf<C> {
         self.as_path_mut().try_replace(path)
     }
 
-    /// Joins the path of a text, as `join` does.
+    /// Joins the path of a text, as `join` does: `../b` after `/x/a` gives `/x/b`. `Invalid` holds
+    /// a text that is no path, such as `a?b`. Out of memory, it returns `Memory`; an `Err` changes
+    /// nothing.
     pub fn try_join<'t>(&mut self, path: &'t str) -> Tried<InvalidPath<&'t str>>
         ensures edit { EditsOwner (step.joined alone (read_path path.now))
             self.old self.new result }

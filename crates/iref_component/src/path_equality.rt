@@ -14,14 +14,14 @@ pub struct Steps {
 }
 
 impl Steps {
-    /// No segment has been read.
+    /// No segment has been read: `count` is 0.
     pub fn new() -> Self
         ensures { steps_count result ≡ 0 }
     {
         Steps { count: 0 }
     }
 
-    /// How many segments have been read.
+    /// How many segments have been read: 4 once `path_eq_counted` has compared `/a/b` with `/a/b`.
     pub fn count(&self) -> u128
         ensures { result ≡ steps_count self.now }
     {

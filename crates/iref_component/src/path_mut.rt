@@ -65,7 +65,8 @@ impl<'a, C: CharSet, T: Target<PathPart, C>> PathMut<'a, C, T> {
     ghost use Rattle.iref_component.specs.PathEdits.{Becomes, BecomesPath, Edits, EditsBy, EditsTo};
     ghost use Rattle.iref_component.specs.Appends.{Appends, TriesAppends, following, lazily};
 
-    /// The path in a range of what holds it, with what stands before it.
+    /// The path in a range of what holds it, with what stands before it: that of `http://h/a/b?q`
+    /// at 8 to 12, after a scheme and an authority.
     pub fn of_target(target: &'a mut T, context: PathContext, range: Range<usize>) -> Self
         requires { T.stands (T.text target.old) context range.start range.end }
         ensures same_reference { Borrows result target.entry.ghost_name }
@@ -151,9 +152,10 @@ impl<'a, C: CharSet, T: Target<PathPart, C>> PathMut<'a, C, T> {
         self.apply(step)
     }
 
-    /// Appends a segment, but follows dots (RFC 3986 section 5.2.4): `.` closes the path with a
-    /// `/`, and `..` removes the last segment and closes the path, so that `foo/bar` becomes
-    /// `foo/`.
+    /// Appends a segment, but follows dots (RFC 3986 section 5.2.4). `.` appends an empty segment
+    /// where there are segments: `foo` becomes `foo/`, `foo/` becomes `foo//`, and `/` and the
+    /// empty path stay. `..` does as `pop` does and then as `.` does, so that `foo/bar` becomes
+    /// `foo/`. Out of memory, it returns `Memory` and changes nothing.
     pub fn push(&mut self, segment: Segment<'_, C>) -> Result<(), Memory>
         ensures { EditsBy step.pushed (text_of segment.entry) self.old self.new result }
     {
@@ -161,9 +163,9 @@ impl<'a, C: CharSet, T: Target<PathPart, C>> PathMut<'a, C, T> {
         self.apply(step)
     }
 
-    /// Removes the last segment. A path that ends in `..`, or a relative one without segments, gains
-    /// a `..`.
-    /// `//a` becomes `/./`.
+    /// Removes the last segment: `/a/b` becomes `/a`, and `//a` becomes `/./`. A path that ends in
+    /// `..`, or a relative one without segments, gains a `..`. Out of memory, it returns `Memory`
+    /// and changes nothing.
     pub fn pop(&mut self) -> Result<(), Memory>
         ensures { Edits step.popped self.old self.new result }
     {
@@ -185,7 +187,8 @@ impl<'a, C: CharSet, T: Target<PathPart, C>> PathMut<'a, C, T> {
     }
 
     /// Replaces the path, with a guard where it would be read as something else: alone, `x` by
-    /// `1:2` is `./1:2`. Out of memory, it returns `Memory` and changes nothing.
+    /// `1:2` is `./1:2`. After an authority a relative path with segments is made absolute: `/a` of
+    /// `//h/a` by `b` is `/b`. Out of memory, it returns `Memory` and changes nothing.
     pub fn replace(&mut self, path: Path<'_, C>) -> Result<(), Memory>
         ensures { EditsBy step.replaced (path_value path.entry) self.old self.new result }
     {
@@ -193,7 +196,7 @@ impl<'a, C: CharSet, T: Target<PathPart, C>> PathMut<'a, C, T> {
         self.apply(step)
     }
 
-    /// Removes all segments, so that the path is `/` or empty.
+    /// Removes all segments: `/a/b` becomes `/`, and `a/b` becomes the empty path.
     pub fn clear(&mut self)
         ensures same { IsSameEditor self.old self.new }
         ensures value { BecomesPath self.old self.new (step.cleared (path_mut_value self.old)) }
@@ -219,8 +222,9 @@ impl<'a, C: CharSet, T: Target<PathPart, C>> PathMut<'a, C, T> {
         self.apply(step)
     }
 
-    /// Appends each segment as it is. The iterator is asked up to its first `None`. At an `Err` the
-    /// segments before the refused one stand.
+    /// Appends each segment as it is: `..` and `b` after `/a` give `/a/../b`. The iterator is asked
+    /// up to its first `None`. Out of memory, it returns `Memory`, and the segments before the
+    /// refused one stand.
     pub fn lazy_append<'s, I>(&mut self, segments: I) -> Result<(), Memory>
     where
         I: IntoIterator<Item = Segment<'s, C>>,
@@ -237,8 +241,9 @@ impl<'a, C: CharSet, T: Target<PathPart, C>> PathMut<'a, C, T> {
     }
 
     /// Appends each segment as `push` does, and closes the path after a last `.` or `..`: `..` and
-    /// `baz` after `/foo/bar` give `/foo/baz`. The iterator is asked up to its first `None`. At an
-    /// `Err` the segments before the refused one stand, and the path is not closed.
+    /// `baz` after `/foo/bar` give `/foo/baz`. The iterator is asked up to its first `None`. Out of
+    /// memory, it returns `Memory`: the segments before the refused one stand, and the path is not
+    /// closed.
     pub fn append<'s, I>(&mut self, segments: I) -> Result<(), Memory>
     where
         I: IntoIterator<Item = Segment<'s, C>>,
@@ -260,7 +265,8 @@ impl<'a, C: CharSet, T: Target<PathPart, C>> PathMut<'a, C, T> {
     }
 
     /// Replaces the path by an absolute one, or appends the segments of a relative one: `../b`
-    /// after `/x/a` gives `/x/b`. This is one edit, so an `Err` changes nothing.
+    /// after `/x/a` gives `/x/b`. This is one edit: out of memory, it returns `Memory` and changes
+    /// nothing.
     pub fn join(&mut self, path: Path<'_, C>) -> Result<(), Memory>
         ensures { EditsBy step.joined (path_value path.entry) self.old self.new result }
     {
@@ -275,7 +281,8 @@ impl<'a, C: CharSet, T: Target<PathPart, C>> PathMut<'a, C, T> {
     }
 
     /// Appends a text as a segment, as it is: `a` with `..` becomes `a/..`. `Invalid` holds a text
-    /// that is no segment, such as `b/c`.
+    /// that is no segment, such as `b/c`. Out of memory, it returns `Memory`; an `Err` changes
+    /// nothing.
     pub fn try_lazy_push<'t>(&mut self, segment: &'t str) -> Tried<InvalidSegment<&'t str>>
         ensures edit { EditsBy step.lazy_pushed segment.now self.old self.new result }
         ensures text { Tests (IsSegment C.tests) segment.entry (λ error. error.0) result }
@@ -284,7 +291,9 @@ impl<'a, C: CharSet, T: Target<PathPart, C>> PathMut<'a, C, T> {
         self.lazy_push(segment).or(Err(TryError::Memory))
     }
 
-    /// Appends a text as a segment, but follows dots, as `push` does.
+    /// Appends a text as a segment, but follows dots, as `push` does: `foo/bar` with `..` becomes
+    /// `foo/`. `Invalid` holds a text that is no segment, such as `b/c`. Out of memory, it returns
+    /// `Memory`; an `Err` changes nothing.
     pub fn try_push<'t>(&mut self, segment: &'t str) -> Tried<InvalidSegment<&'t str>>
         ensures edit { EditsBy step.pushed segment.now self.old self.new result }
         ensures text { Tests (IsSegment C.tests) segment.entry (λ error. error.0) result }
@@ -293,8 +302,10 @@ impl<'a, C: CharSet, T: Target<PathPart, C>> PathMut<'a, C, T> {
         self.push(segment).or(Err(TryError::Memory))
     }
 
-    /// Appends each text as a segment, as it is. The iterator is asked up to its first `None`. At
-    /// an `Err` the segments before the refused text stand.
+    /// Appends each text as a segment, as it is. The iterator is asked up to its first `None`.
+    /// `Invalid` holds a text that is no segment, and `Memory` says that memory ran out. At an
+    /// `Err` the segments before the refused text stand: `b`, `..` and `c/d` after `/a` are refused
+    /// at `c/d`, and leave `/a/b/..`.
     pub fn try_lazy_append<'t, I>(&mut self, segments: I) -> Tried<InvalidSegment<&'t str>>
     where
         I: IntoIterator<Item = &'t str>,
@@ -311,9 +322,10 @@ impl<'a, C: CharSet, T: Target<PathPart, C>> PathMut<'a, C, T> {
     }
 
     /// Appends each text as a segment, and closes the path after a last `.` or `..`, as `append`
-    /// does. The iterator is asked up to its first `None`. At an `Err` the segments before the
-    /// refused text stand, and the path is not closed: `b`, `c`, `..` and `c/d` after `/a` are
-    /// refused at `c/d`, and leave `/a/b`.
+    /// does. The iterator is asked up to its first `None`. `Invalid` holds a text that is no
+    /// segment, and `Memory` says that memory ran out. At an `Err` the segments before the refused
+    /// text stand, and the path is not closed: `b`, `c`, `..` and `c/d` after `/a` are refused at
+    /// `c/d`, and leave `/a/b`.
     pub fn try_append<'t, I>(&mut self, segments: I) -> Tried<InvalidSegment<&'t str>>
     where
         I: IntoIterator<Item = &'t str>,
@@ -335,8 +347,9 @@ impl<'a, C: CharSet, T: Target<PathPart, C>> PathMut<'a, C, T> {
         }
     }
 
-    /// Replaces the path by that of a text, with a guard where it would be read as something else:
-    /// alone, `x` by `1:2` is `./1:2`. `Invalid` holds a text that is no path, such as `a?b`.
+    /// Replaces the path by that of a text, as `replace` does: alone, `x` by `1:2` is `./1:2`.
+    /// `Invalid` holds a text that is no path, such as `a?b`. Out of memory, it returns `Memory`;
+    /// an `Err` changes nothing.
     pub fn try_replace<'t>(&mut self, path: &'t str) -> Tried<InvalidPath<&'t str>>
         ensures edit { EditsBy step.replaced (read_path path.now) self.old self.new result }
         ensures text { Tests (IsPath C.tests) path.entry (λ error. error.0) result }
@@ -345,7 +358,9 @@ impl<'a, C: CharSet, T: Target<PathPart, C>> PathMut<'a, C, T> {
         self.replace(path).or(Err(TryError::Memory))
     }
 
-    /// Joins the path of a text, as `join` does.
+    /// Joins the path of a text, as `join` does: `../b` after `/x/a` gives `/x/b`. `Invalid` holds
+    /// a text that is no path, such as `a?b`. Out of memory, it returns `Memory`; an `Err` changes
+    /// nothing.
     pub fn try_join<'t>(&mut self, path: &'t str) -> Tried<InvalidPath<&'t str>>
         ensures edit { EditsBy step.joined (read_path path.now) self.old self.new result }
         ensures text { Tests (IsPath C.tests) path.entry (λ error. error.0) result }
@@ -368,9 +383,10 @@ impl<'a, C: CharSet, T: Target<PathPart, C>> PathMut<'a, C, T> {
 impl<C: CharSet, T: PathTarget<C>> PathMut<'_, C, T> {
     ghost use Rattle.iref_component.specs.PathEdits.{Edits, path_mut_context, path_mut_text, path_mut_value};
 
-    /// Replaces the path by its normal form, guarded where that is needed (RFC 3986 section 5.2.4).
-    /// After an authority that is what `remove_dot_segments` leaves. Memory is taken only where
-    /// that path is longer, such as `./a:b` for `a:b` and `../` for `..`.
+    /// Replaces the path by its normal form, guarded where that is needed (RFC 3986 section 5.2.4):
+    /// `a/..//b` becomes `.//b`. After an authority that is what `remove_dot_segments` leaves.
+    /// Memory is taken only where that path is longer, such as `../` for `..`, and alone `./a:b`
+    /// for `a:b`. Out of memory, it returns `Memory` and changes nothing.
     pub fn normalize(&mut self) -> Result<(), Memory>
         ensures edit { Edits step.normalized self.old self.new result }
         ensures dots { (path_mut_context self.old).has_authority ≡ true
@@ -453,8 +469,9 @@ impl<'a, C: CharSet> PathMut<'a, C, PathBuf<C>> {
         PathMut::from_path_with_context(path, PathContext::default())
     }
 
-    /// The editor of a path, with what it is to stand after: after a scheme, `push` with `1:2`
-    /// turns the empty path into `1:2`, and else into `./1:2`.
+    /// The editor of a path, with what it is to stand after: `push` with `1:2` turns the empty path
+    /// into `/1:2` after an authority, into `1:2` after a scheme alone, and into `./1:2` after
+    /// neither.
     pub fn from_path_with_context(path: &'a mut PathBuf<C>, context: PathContext) -> Self
         requires { follows_authority context (path_value path.old) ≡ true }
         ensures same_reference { Borrows result path.entry.ghost_name }

@@ -21,70 +21,70 @@ impl<S: Storage> RuleText<S, PortRule, UriChars> {
         self.as_borrowed().as_str().is_empty()
     }
 
-    /// The number, if it fits a `u8`.
+    /// The number, if it fits a `u8`: of `80` 80, of `256` None.
     pub fn as_u8(&self) -> Option<u8>
         ensures { result ≡ result_ok (port_number (2 ^ 8) (text_of self.now)) }
     {
         u8::try_from(self.as_borrowed()).ok()
     }
 
-    /// The number, if it fits a `u16`.
+    /// The number, if it fits a `u16`: of `80` 80, of `65536` None.
     pub fn as_u16(&self) -> Option<u16>
         ensures { result ≡ result_ok (port_number (2 ^ 16) (text_of self.now)) }
     {
         u16::try_from(self.as_borrowed()).ok()
     }
 
-    /// The number, if it fits a `u32`.
+    /// The number, if it fits a `u32`: of `80` 80, of `4294967296` None.
     pub fn as_u32(&self) -> Option<u32>
         ensures { result ≡ result_ok (port_number (2 ^ 32) (text_of self.now)) }
     {
         u32::try_from(self.as_borrowed()).ok()
     }
 
-    /// The number, if it fits a `u64`.
+    /// The number, if it fits a `u64`: of `80` 80, of `18446744073709551616` None.
     pub fn as_u64(&self) -> Option<u64>
         ensures { result ≡ result_ok (port_number (2 ^ 64) (text_of self.now)) }
     {
         u64::try_from(self.as_borrowed()).ok()
     }
 
-    /// The number, if it fits a `u128`.
+    /// The number, if it fits a `u128`: of `80` 80, of the empty port None.
     pub fn as_u128(&self) -> Option<u128>
         ensures { result ≡ result_ok (port_number (2 ^ 128) (text_of self.now)) }
     {
         u128::try_from(self.as_borrowed()).ok()
     }
 
-    /// The number, if it fits an `i8`.
+    /// The number, if it fits an `i8`: of `80` 80, of `128` None.
     pub fn as_i8(&self) -> Option<i8>
         ensures { result ≡ result_ok (signed_port_number (2 ^ 7) (text_of self.now)) }
     {
         i8::try_from(self.as_borrowed()).ok()
     }
 
-    /// The number, if it fits an `i16`.
+    /// The number, if it fits an `i16`: of `80` 80, of `32768` None.
     pub fn as_i16(&self) -> Option<i16>
         ensures { result ≡ result_ok (signed_port_number (2 ^ 15) (text_of self.now)) }
     {
         i16::try_from(self.as_borrowed()).ok()
     }
 
-    /// The number, if it fits an `i32`.
+    /// The number, if it fits an `i32`: of `80` 80, of `2147483648` None.
     pub fn as_i32(&self) -> Option<i32>
         ensures { result ≡ result_ok (signed_port_number (2 ^ 31) (text_of self.now)) }
     {
         i32::try_from(self.as_borrowed()).ok()
     }
 
-    /// The number, if it fits an `i64`.
+    /// The number, if it fits an `i64`: of `80` 80, of `9223372036854775808` None.
     pub fn as_i64(&self) -> Option<i64>
         ensures { result ≡ result_ok (signed_port_number (2 ^ 63) (text_of self.now)) }
     {
         i64::try_from(self.as_borrowed()).ok()
     }
 
-    /// The number, if it fits an `i128`.
+    /// The number, if it fits an `i128`: of `80` 80, of the empty port None.
     pub fn as_i128(&self) -> Option<i128>
         ensures { result ≡ result_ok (signed_port_number (2 ^ 127) (text_of self.now)) }
     {

@@ -21,7 +21,7 @@ pub trait Rule {
     ghost decided: { (tests : CharTests) → AreAboveAscii tests
         → AcceptsExactly (Self.test tests) (Self.rule tests) };
 
-    /// Whether the text is in the rule.
+    /// Whether the text is in the rule: in that of ports `80` is, `8a` is not.
     fn accepts<C: CharSet>(text: &str) -> bool
         ensures { result ≡ test C.tests text.now };
 
@@ -38,7 +38,7 @@ pub trait Refuses<T>: Rule {
     /// The input that an error holds.
     ghost refused: { Self.Error → T };
 
-    /// The error that holds this input.
+    /// The error that holds this input: by the rule of ports, of `8a` it is `InvalidPort("8a")`.
     fn refuse(input: T) -> Self::Error
         ensures { refused result ≡ input };
 }

@@ -10,7 +10,8 @@ use iref_parse::cut::cut;
 use iref_parse::scan;
 
 impl<S: Storage, C: CharSet> RuleText<S, SegmentRule, C> {
-    /// Whether what stands before the first `:` is a scheme (RFC 3986 section 4.2).
+    /// Whether what stands before the first `:` is a scheme (RFC 3986 section 4.2): in `a:b` it is,
+    /// in `1a:b` it is not.
     pub fn looks_like_scheme(&self) -> bool
         ensures { result ≡ function.looks_like_scheme (text_of self.now) }
     {
@@ -18,7 +19,8 @@ impl<S: Storage, C: CharSet> RuleText<S, SegmentRule, C> {
     }
 }
 
-/// Whether what stands before the first `:` is a scheme.
+/// Whether what stands before the first `:` is a scheme: in `a:b` it is, and `a` has no `:`, so the
+/// answer is false.
 pub fn looks_like_scheme(text: &str) -> bool
     ensures { result ≡ function.looks_like_scheme text.now }
 {

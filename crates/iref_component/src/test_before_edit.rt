@@ -13,7 +13,8 @@ use iref_grammar::chars::CharSet;
 /// port `8a` is refused with `Invalid(InvalidPort("8a"))`, and `Memory` says that memory ran out.
 pub type Tried<E> = Result<(), TryError<E>>;
 
-/// The borrowed text that is in a rule: `Invalid` returns one that is not, in the rule's error.
+/// The borrowed text that is in a rule: by that of ports, of `80` the port `80`. `Invalid` returns
+/// one that is not, such as `8a`, in the rule's error.
 pub fn read<'t, R: Refuses<&'t str>, C: CharSet>(
     text: &'t str,
 ) -> Result<BorrowedText<'t, R, C>, TryError<R::Error>>
@@ -26,8 +27,8 @@ pub fn read<'t, R: Refuses<&'t str>, C: CharSet>(
     }
 }
 
-/// Whether the text, if there is one, is in a rule: `Invalid` returns one that is not, in the
-/// rule's error.
+/// Whether the text, if there is one, is in a rule: in that of ports `80` is. Without a text it
+/// returns `Ok`. `Invalid` returns a text that is not, such as `8a`, in the rule's error.
 pub fn test<'t, R: Refuses<&'t str>, C: CharSet>(
     text: Option<&'t str>,
 ) -> Result<(), TryError<R::Error>>
