@@ -86,7 +86,8 @@ pub struct Compact<'a> {
 }
 
 impl Compact<'_> {
-    /// The label, `:`, and the rest.
+    /// The label, `:`, and the rest: of `ex` and `a` it is `ex:a`. Out of memory, it returns
+    /// `Memory`.
     pub fn to_text(&self, alloc: Global) -> Result<String, Memory>
         ensures { IfOk result (λ text. string_bytes text ≡ compact_text (compact_value self.now)) }
     {
@@ -149,13 +150,16 @@ impl Prefixes {
         Some(self.table.find(label)?.iri())
     }
 
-    /// Adds a last entry. The label is in the rule of the table's labels, and differs from all
+    /// Adds a last entry: after `insert` of `ex` with `http://ex.org/`, the text `ex:a` expands to
+    /// `http://ex.org/a`. The label is in the rule of the table's labels, and differs from all
     /// labels that are there, by its text. The table keeps one copy of the label and of the IRI. It
     /// finds their places by their bits, however many entries it has.
     ///
     /// # Errors
     ///
-    /// `BadLabel`, then `Taken`, then `Memory`.
+    /// `BadLabel` if the label is outside the rule of the table's labels. Else `Taken` if the label
+    /// has an entry, as if `ex` is inserted once more. Else `Memory` if memory runs out. After an
+    /// error the table is as it was.
     #[tactic(auto, using(crate::proofs::PrefixTableLemmas::inserts))]
     pub fn insert(&mut self, label: &str, iri: Iri<'_>) -> Result<(), PrefixFault>
         ensures ok { OnOk result (inserted label.now (reference_text iri.entry) self.old
@@ -179,7 +183,8 @@ impl Prefixes {
     ///
     /// # Errors
     ///
-    /// `BadLabel`, then `Memory`.
+    /// `BadLabel` if the label is outside the rule of the table's labels. Else `Memory` if memory
+    /// runs out. After an error the table is as it was.
     #[tactic(auto, using(crate::proofs::PrefixTableLemmas::replaces))]
     pub fn replace(&mut self, label: &str, iri: Iri<'_>) -> Result<bool, PrefixFault>
         ensures ok { OnOk result (replaced label.now (reference_text iri.entry) self.old
@@ -210,10 +215,13 @@ impl Prefixes {
     }
 
     /// The IRI by its longest beginning in the table: the label of the entry whose IRI's text is a
-    /// beginning of this one's, and the rest. Where several are as long, the first inserted one
-    /// serves. None where no entry's IRI is a beginning. It takes no memory. However many entries
-    /// there are, it tests at most nine bits for each byte of this IRI, and compares it with one
-    /// entry's. If that entry is no beginning, and others are shorter, it may test the bits twice.
+    /// beginning of this one's, and the rest. With `ex` for `http://ex.org/` and `v` for
+    /// `http://ex.org/v#`, `http://ex.org/v#name` becomes `v` and `name`. Where several entries'
+    /// IRIs are as long, the first inserted one serves. None where no entry's IRI is a beginning.
+    ///
+    /// It takes no memory. However many entries there are, it tests at most nine bits for each byte
+    /// of this IRI, and compares it with one entry's. If that entry is no beginning, and others are
+    /// shorter, it may test the bits twice.
     #[tactic(auto, using(crate::proofs::PrefixTableLemmas::compacts))]
     pub fn compact<'a>(&'a self, iri: Iri<'a>) -> Option<Compact<'a>>
         ensures compacted { option_map compact_value result
@@ -230,11 +238,14 @@ impl Prefixes {
     }
 
     /// The IRI that a text stands for: the text is cut at its first `:`, and the IRI of the label
-    /// before it is followed by what stands after it.
+    /// before it is followed by what stands after it. With `ex` for `http://ex.org/`, `ex:a#b`
+    /// expands to `http://ex.org/a#b`.
     ///
     /// # Errors
     ///
-    /// `NoColon`, then `UnknownLabel`, then `Memory`, then `NotAnIri`.
+    /// `NoColon` if the text holds no `:`. Else `UnknownLabel` if what stands before the first `:`
+    /// has no entry. Else `Memory` if memory runs out. Else `NotAnIri` if the label's IRI and the
+    /// rest are no IRI, as of `ex:a b`.
     #[tactic(auto, using(crate::proofs::PrefixTableLemmas::expanding))]
     pub fn expand(&self, alloc: Global, text: &str) -> Result<IriBuf, ExpandFault>
         ensures ok { IfOk result (λ iri. expanded text.now self.now.entries

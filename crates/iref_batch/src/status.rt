@@ -4,8 +4,8 @@ ghost use Rattle.iref_batch.specs.Statuses.{number_of};
 
 use std::process::ExitCode;
 
-/// How many hundredths of the whole a part is, rounded down: of 8 that 2 is 25. It is 100 where the
-/// part is no less than the whole.
+/// How many percent of the whole a part is, rounded down: 2 of 8 are 25. It is 100 where the part
+/// is no less than the whole.
 pub fn percent(part: u64, whole: u64) -> u64
     ensures below { part < whole → result ≡ part * 100 / whole }
     ensures all { whole ≤ part → result ≡ 100 }

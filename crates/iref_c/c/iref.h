@@ -15,8 +15,8 @@
  * iref_sort_key and iref_sort_range, which alone take memory, are not called from a signal handler, nor in the forked child
  * of a process with threads. Nothing checks any of this.
  *
- * Results. A call answers a status, one of those below. Where it is not IREF_OK, nothing is written, but that *needed is
- * written at IREF_SHORT too.
+ * Results. A call answers a status, one of those below. Where it is not IREF_OK, nothing is written, except *needed at
+ * IREF_SHORT.
  *
  * Example. Prints http://a/b/g:
  *
@@ -96,9 +96,9 @@ struct iref_place {
 };
 
 /* Why a text is no reference of IRIs, and where: it is cut into components by the expression of RFC 3986 appendix B. What
- * stands of the component before the place can still become one of its rule, and then not. A host that begins with `[`
- * is wrong there. Of `http://h:8x0/` *place becomes IREF_PORT and 10, of a reference IREF_NOTHING and 0. It answers
- * IREF_OK, whatever the bytes are. */
+ * stands of the component before the place can begin one of its rule, and with the next character it cannot, unless the
+ * component ends there. A host that begins with `[` and is outside its rule is wrong at the `[`. Of `http://h:8x0/` *place
+ * becomes IREF_PORT and 10, of a reference IREF_NOTHING and 0. It answers IREF_OK, whatever the bytes are. */
 uint32_t iref_fault(const char *text, size_t length, struct iref_place *place);
 
 /* Comparison of references of IRIs: schemes without regard to case (RFC 3986 section 6.2.2.1), paths with their dot
@@ -132,12 +132,14 @@ uint32_t iref_hash_keyed(const char *text, size_t length, uint64_t key0, uint64_
 uint32_t iref_normalize_path(const char *path, size_t path_length, char *out, size_t out_length, size_t *needed);
 
 /* What a reference of IRIs resolves to against a base, which is an IRI: strict (RFC 3986 section 5.2). `../g` and
- * `http://a/b/c/d` give `http://a/b/g`. */
+ * `http://a/b/c/d` give `http://a/b/g`. Section 5.2.4 removes each `..` that nothing cancels, but here a path that does
+ * not begin with `/` keeps it: `../x` and `s:a` give `s:../x`. */
 uint32_t iref_resolve(const char *reference, size_t reference_length, const char *base, size_t base_length, char *out,
                       size_t out_length, size_t *needed);
 
-/* A reference that leads from a base to a target, both references of IRIs: the way back from resolution. From
- * `http://a/b/c/d` to `http://a/b` it is `../../b`. What differs in scheme or authority is given whole. */
+/* A reference that leads from a base to a target, both references of IRIs: the way back from resolution (RFC 3986 section
+ * 5.2). From `http://a/b/c/d` to `http://a/b` it is `../../b`. What differs in scheme or authority is given whole. Against
+ * a base with a scheme it resolves to a text that is equal to what the target resolves to, perhaps in other characters. */
 uint32_t iref_relative(const char *target, size_t target_length, const char *base, size_t base_length, char *out,
                        size_t out_length, size_t *needed);
 
@@ -162,12 +164,13 @@ uint32_t iref_canonical(const char *reference, size_t reference_length, char *ou
 uint32_t iref_sort_key(const char *reference, size_t reference_length, char *out, size_t out_length, size_t *needed);
 
 /* The range of the sort keys of a reference of IRIs and of all below it: of those that have its scheme and its authority,
- * and whose normal path begins with all segments of its own. They stand from the first *needed - 1 bytes that are written
- * up to, and without, all *needed of them, of which the last is 2; no other sort keys do. So they are those that begin with
- * these *needed - 1 bytes, and `key >= ? AND key < ?` in an index. Below `http://h/docs` are it itself, `http://h/docs/a`,
- * `http://h/docs?q` and `HTTP://h/x/../docs/`, not `http://h/docsx`. Below `http://h/` is all of this authority with an
- * absolute path, below `http://h` only it itself with or without a query and a fragment, and below `http://h/docs/`, which
- * ends in an empty segment, not `http://h/docs/a`. */
+ * and whose normal path begins with all segments of its own. The end of the range is written: all *needed bytes, of which
+ * the last is 2. The beginning of the range is the same bytes without the last: *needed - 1 of them. By memcmp, as
+ * iref_sort_key says, these sort keys are not less than the beginning and are less than the end, and no other sort keys
+ * are: an index tests `key >= ? AND key < ?`. They are also those that begin with the *needed - 1 bytes. Below
+ * `http://h/docs` are it itself, `http://h/docs/a`, `http://h/docs?q` and `HTTP://h/x/../docs/`, not `http://h/docsx`.
+ * Below `http://h/` is all of this authority with an absolute path, below `http://h` only it itself with or without a query
+ * and a fragment, and below `http://h/docs/`, which ends in an empty segment, not `http://h/docs/a`. */
 uint32_t iref_sort_range(const char *reference, size_t reference_length, char *out, size_t out_length, size_t *needed);
 
 #ifdef __cplusplus

@@ -11,7 +11,8 @@ use std::collections::BTreeMap;
 /// URIs, each under its sort key.
 pub type Index = BTreeMap<SortKey, UriBuf>;
 
-/// Puts a URI under its sort key, where one that is equal to it may have stood.
+/// Puts a URI under its sort key, where one that is equal to it may have stood. Out of memory, it
+/// returns `Memory` and the index is as it was.
 pub fn add(alloc: Global, index: &mut Index, uri: UriBuf) -> Result<(), Memory>
     ensures ok { OnOk result (AreUnderTheirKeys reference_buf_value index.old
         → AreUnderTheirKeys reference_buf_value index.new) }

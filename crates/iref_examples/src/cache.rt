@@ -41,6 +41,7 @@ impl<V: Drop> Cache<V> {
     }
 
     /// Puts a value: each spelling of the URI finds it then, and any other URI what it found before.
+    /// Out of memory, it returns `Memory` and the cache is as it was.
     pub fn put(&mut self, alloc: Global, uri: Uri<'_>, value: V) -> Result<(), Memory>
         ensures ok { OnOk result (HasPut self.old self.new (reference_value uri.entry) value) }
         ensures err { OnErr result (self.new ≡ self.old) }

@@ -13,8 +13,9 @@ use iref::{IriRef, Memory};
 use iref_parse::cut::cut;
 use std::alloc::Global;
 
-/// The IRI made short by its longest prefix, the first one given on a tie; None where it begins
-/// with no prefix. What was made short expands to the IRI.
+/// The IRI made short by its longest prefix, the first one given on a tie: with `schema` for
+/// `https://schema.org/`, `https://schema.org/name` becomes `schema:name`. None where it begins
+/// with no prefix. What was made short expands to the IRI. Out of memory, it returns `Memory`.
 pub fn shortened(alloc: Global, context: &Prefixes, iri: Iri<'_>) -> Result<Option<String>, Memory>
     ensures longest { IfOk result (λ short. option_map string_bytes short
         ≡ option_map compact_text (compacted (reference_text iri.entry) context.now.entries)) }

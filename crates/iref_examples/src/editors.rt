@@ -6,14 +6,15 @@ use iref::Memory;
 use iref::chars::UriChars;
 use iref::uri::{PathMut, PathPart, Segment, Target, UriBuf};
 
-/// Closes a path, in whatever holds it: `/a` becomes `/a/`.
+/// Closes a path, in whatever holds it: `/a` becomes `/a/`. Out of memory, it returns `Memory`.
 pub fn close<T: Target<PathPart, UriChars>>(path: &mut PathMut<'_, T>) -> Result<(), Memory>
     ensures { EditsBy pushed (codes ".") path.old path.new result }
 {
     path.push(Segment::current())
 }
 
-/// Takes the last segment of a URI's path away.
+/// Takes the last segment of a URI's path away: `http://h/a/b?q` becomes `http://h/a?q`. Out of
+/// memory, it returns `Memory`.
 pub fn climb(path: &mut PathMut<'_, UriBuf>) -> Result<(), Memory>
     ensures { Edits popped path.old path.new result }
 {

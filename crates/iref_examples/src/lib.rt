@@ -24,8 +24,8 @@ use iref::uri::{
 };
 use std::alloc::{AllocError, Global};
 
-/// The components of a reference, as slices of its text; None exactly where the text is no
-/// reference.
+/// The components of a reference, as slices of its text: of `http://a/b` the scheme is `http`. None
+/// exactly where the text is no reference, such as `1:2`.
 pub fn parts_of(text: &str) -> Option<UriRefParts<'_>>
     ensures { MatchOption result (¬ (InUtf8 (IsUriReference uri_chars) text.now))
         (λ parts. InUtf8 (IsUriReference uri_chars) text.now
@@ -34,14 +34,15 @@ pub fn parts_of(text: &str) -> Option<UriRefParts<'_>>
     Some(UriRef::new(text).ok()?.parts())
 }
 
-/// Whether two URIs mean the same.
+/// Whether two URIs are equal by `==`, as `HTTP://a/%7Eb/./c` and `http://a/~b/c` are.
 pub fn mean_the_same(a: Uri<'_>, b: Uri<'_>) -> bool
     ensures { result ≡ are_alike (reference_value a.entry) (reference_value b.entry) }
 {
     a == b
 }
 
-/// Whether two paths are equal, and how many segments were read to decide it.
+/// Whether two paths are equal, and how many segments were read to decide it: of `a/b/c` and
+/// `a/../a/./b/../b/c` they are `true` and 11.
 pub fn compared(a: Path<'_>, b: Path<'_>) -> (bool, u128)
     ensures equal { (result.0 ≡ true)
         ↔ (path_key (path_value a.entry) ≡ path_key (path_value b.entry)) }
@@ -54,7 +55,7 @@ pub fn compared(a: Path<'_>, b: Path<'_>) -> (bool, u128)
     (equal, steps.count())
 }
 
-/// How many segments of the path are empty.
+/// How many segments of the path are empty: of `//a/b/foo//bar/` there are 3.
 pub fn empty_segment_count(path: Path<'_>) -> usize
     ensures { result ≡ count_by is_empty (path_value path.entry).segments }
 {
@@ -67,14 +68,16 @@ pub fn empty_segment_count(path: Path<'_>) -> usize
     count
 }
 
-/// The segments of the path, in a vector.
+/// The segments of the path, in a vector: of `//a/b/foo//bar/` there are 7. Out of memory, it
+/// returns `AllocError`.
 pub fn segment_list<'a>(path: Path<'a>, alloc: Global) -> Result<Vec<Segment<'a>>, AllocError>
     ensures { IfOk result (λ list. map text_of list.items ≡ (path_value path.entry).segments) }
 {
     path.segments().collect(alloc)
 }
 
-/// The segments of the path, the last one first.
+/// The segments of the path, the last one first: of `a/b` they are `b` and `a`. Out of memory, it
+/// returns `AllocError`.
 pub fn reversed_segment_list<'a>(
     path: Path<'a>,
     alloc: Global,
@@ -85,7 +88,8 @@ pub fn reversed_segment_list<'a>(
     path.segments().rev().collect(alloc)
 }
 
-/// The normal segments of the path, in a vector.
+/// The normal segments of the path, in a vector (RFC 3986 section 5.2.4): of `a/..//b` they are an
+/// empty one and `b`. Out of memory, it returns `AllocError`.
 pub fn normal_segment_list<'a>(
     path: Path<'a>,
     alloc: Global,
@@ -96,7 +100,8 @@ pub fn normal_segment_list<'a>(
     path.normalized_segments().collect(alloc)
 }
 
-/// The longest of the path's segments, in bytes; 0 where it has none.
+/// The length of the longest of the path's segments, in bytes: of `//a/b/foo//bar/` it is 3. It is
+/// 0 where the path has none.
 pub fn longest_segment_length(path: Path<'_>) -> usize
     ensures { result ≡ fold (λ longest segment. max longest (length segment)) 0
         (path_value path.entry).segments }

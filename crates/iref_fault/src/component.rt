@@ -4,17 +4,18 @@
 /// A component of a reference (RFC 3986 section 3): in `http://h:8x0/` the port is invalid.
 #[derive(Clone, Copy, Debug, PartialEq, Eq)]
 pub enum Component {
-    /// What stands before the first `:` (section 3.1).
+    /// What stands before the first `:`, where no `/`, `?` or `#` is before that (section 3.1).
     Scheme,
     /// What stands before the `@` of an authority (section 3.2.1).
     UserInfo,
     /// A registered name or an address (section 3.2.2).
     Host,
-    /// What follows the `:` of an authority (section 3.2.3).
+    /// What follows the `:` after the host (section 3.2.3).
     Port,
     /// The segments with `/` between (section 3.3).
     Path,
-    /// What follows the first `?` (section 3.4).
+    /// What stands between the first `?`, where no `#` is before that, and the next `#` or the end
+    /// (section 3.4).
     Query,
     /// What follows the first `#` (section 3.5).
     Fragment,

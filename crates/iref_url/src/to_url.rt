@@ -14,7 +14,13 @@ pub trait ToUrl {
     /// Its text.
     ghost text: { Self → Text };
 
-    /// The URL that the URL Standard parses from the text, or why there is none, as for `http://`.
+    /// The URL that the URL Standard parses from the text: of `HTTP://EXAMPLE.org:80/./a` it is
+    /// `http://example.org/a`.
+    ///
+    /// # Errors
+    ///
+    /// Why the URL Standard has no URL for the text, as `EmptyHost` for `http://`. `OutOfMemory`
+    /// where memory runs out, and `Overflow` where the URL comes to 4 GB.
     fn to_url(&self, alloc: Global) -> Result<Url, ParseError>
         ensures { Gives result (parse_url None (text self.now)) };
 }

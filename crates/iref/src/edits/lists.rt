@@ -25,7 +25,8 @@ const MIN_REST: usize = 1024;
 // Fewer edits than these are done with no look at what they have in common.
 const FEW: usize = 8;
 
-/// What a list of edits returns: the number of the first that cannot be done, from 0, and why.
+/// What a list of edits returns: the number of the first that cannot be done, from 0, and why. On
+/// `x`, `SetPath` with `1:2` and then `SetHost` with `h` return 1 and `NoAuthority`.
 pub type Applied = Result<(), (usize, EditFault)>;
 
 // Does one edit, or changes nothing.
@@ -292,14 +293,16 @@ fn apply_list<R: SetsScheme, C: CharSet>(
     Ok(())
 }
 
-/// Does the edits one after the other. Where 32 of them have changed the length, 32 or more that
-/// leave a long query and fragment as they are may be done on a copy of the text before these, if
-/// there is memory for it, and else in place.
+/// Does the edits one after the other: `Push` with `b` and then `SetQuery` with `x=1` turn
+/// `http://h/a` into `http://h/a/b?x=1` (RFC 3986 section 3). Where 32 of them have changed the
+/// length, 32 or more that leave a long query and fragment as they are may be done on a copy of the
+/// text before these, if there is memory for it, and else in place.
 ///
 /// # Errors
 ///
-/// The number of the first edit that is refused, from 0, and why: those before it are done.
-/// `NoAuthority` if it edits a subcomponent of an absent authority, even to remove it.
+/// The number of the first edit that cannot be done, from 0, and why: those before it are done.
+/// `NoAuthority` if it edits a subcomponent of an absent authority, even to remove it. `Memory` if
+/// memory runs out.
 #[tactic(auto, using(iref_reference_text::proofs::ReferenceTextLemmas::spelled))]
 pub fn apply_all<C: CharSet>(reference: &mut UriRefBuf<C>, edits: &[Edit<'_, C>]) -> Applied
     ensures { AppliesTo edited (map edit_step edits.now) reference.old reference.new result }
@@ -307,7 +310,12 @@ pub fn apply_all<C: CharSet>(reference: &mut UriRefBuf<C>, edits: &[Edit<'_, C>]
     apply_list(reference, edits)
 }
 
-/// Does the edits of a URI as `apply_all` does; `SchemeNeeded` if an edit removes the scheme.
+/// Does the edits of a URI (RFC 3986 section 3) as `apply_all` does: `SetQuery` with `q` turns
+/// `s:x` into `s:x?q`.
+///
+/// # Errors
+///
+/// Those of `apply_all`, and `SchemeNeeded` if an edit removes the scheme.
 #[tactic(auto, using(iref_reference_text::proofs::ReferenceTextLemmas::spelled))]
 pub fn apply_all_uri<C: CharSet>(uri: &mut UriBuf<C>, edits: &[Edit<'_, C>]) -> Applied
     ensures { AppliesTo edited_uri (map edit_step edits.now) uri.old uri.new result }
