@@ -121,7 +121,8 @@ impl<'a> Uri<'a, IriChars> {
         self.to_reference()
     }
 
-    /// The URI that it maps to: of `http://é`, `http://%C3%A9`. It equals this one.
+    /// The URI that it maps to (RFC 3987 section 3.1): of `http://é`, `http://%C3%A9`. It equals
+    /// this one. Out of memory, it returns `Memory`.
     pub fn to_uri(&self, alloc: Global) -> Result<UriBuf<UriChars>, Memory>
         ensures { IfOk result (IsMappingOf (InUtf8 (IsUri uri_chars)) (reference_text self.now)
             (key_of_reference self.now)) }
@@ -139,7 +140,8 @@ impl<'a> UriRef<'a, IriChars> {
         self.to_uri_rule()
     }
 
-    /// The reference of URIs that it maps to: of `//é?%41`, `//%C3%A9?%41`. It equals this one.
+    /// The reference of URIs that it maps to (RFC 3987 section 3.1): of `//é?%41`, `//%C3%A9?%41`.
+    /// It equals this one. Out of memory, it returns `Memory`.
     pub fn to_uri_ref(&self, alloc: Global) -> Result<UriRefBuf<UriChars>, Memory>
         ensures { IfOk result (IsMappingOf (InUtf8 (IsUriReference uri_chars))
             (reference_text self.now) (key_of_reference self.now)) }

@@ -255,7 +255,7 @@ impl<C: CharSet> UriRefBuf<C> {
 
 impl<C: CharSet> UriBuf<C> {
     /// The URI that is a scheme alone: of `data`, `data:`. It takes the scheme's buffer, which
-    /// grows only where it has no room for the `:`.
+    /// grows only where it has no room for the `:`. Out of memory, it returns `Memory`.
     pub fn from_scheme(scheme: SchemeBuf) -> Result<Self, Memory>
         ensures { IfOk result (λ uri.
             reference_buf_text uri ≡ text_of scheme ++ colon ∷ []) }

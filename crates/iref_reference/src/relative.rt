@@ -43,7 +43,7 @@ fn share_scheme_and_authority<C: CharSet>(
 impl<'a, S: SchemePart<'a>, C: CharSet> Parts<'a, S, C> {
     /// What leads to the reference of these components from that of others, not written yet: from
     /// `http://a/b/c/d` to `http://a/b` it is `../../b`. `Memory` says that its length cannot be
-    /// counted. Components that were read from a text are readable.
+    /// counted. These components have to be readable, as those that are read from a text are.
     pub fn relative_to(&self, base: &UriRefParts<'a, C>) -> Result<ComposedUriRef<'a, C>, Memory>
         requires { is_readable C.tests (parts_value S.text self.now) ≡ true }
         ensures { IfOk result (Spells
@@ -57,10 +57,14 @@ impl<'a, R: HeldRule, C: CharSet> Reference<'a, R, C> {
     /// A reference that leads from a base to this one: from `http://a/b/c/d` to `http://a/b` it is
     /// `../../b`. What differs in scheme or authority is given whole.
     ///
-    /// Against the base it resolves to a reference that equals this one by `==`, perhaps in other
-    /// characters: from `http://a/~b/d` to `http://a/%7Eb/c` it is `c`, which resolves to
-    /// `http://a/~b/c` (RFC 3986 section 5.2). Its path has the fewest `..`; its text need not be
-    /// the shortest. Out of memory, it returns `Memory`.
+    /// Where both have schemes, it resolves against the base to a reference that equals this one by
+    /// `==`, perhaps in other characters: from `http://a/~b/d` to `http://a/%7Eb/c` it is `c`, which
+    /// resolves to `http://a/~b/c` (RFC 3986 section 5.2). Where the base alone has one, it resolves
+    /// to what equals the resolution of this one.
+    ///
+    /// Where the base has a scheme, scheme and authority agree and both paths begin with `/`, its
+    /// path is relative, and no relative path with a segment that leads there has fewer `..`. Its
+    /// text need not be the shortest. Out of memory, it returns `Memory`.
     pub fn relative_to(&self, alloc: Global, base: UriRef<'_, C>) -> Result<UriRefBuf<C>, Memory>
         ensures text { IfOk result (λ answer. IsRelative (reference_text self.now)
             (reference_text base.entry) (reference_buf_text answer)) }
@@ -79,7 +83,8 @@ impl<'a, R: HeldRule, C: CharSet> Reference<'a, R, C> {
 
     /// What is left of the reference after a prefix: of `http://a/b/c?q#f` after `http://a/b?r` it
     /// is the path `c`, with the query `q` and the fragment `f`. None where scheme or authority
-    /// differ, or the path has no such rest; that takes no memory.
+    /// differ, or the path has no such rest; that takes no memory. Out of memory, it returns
+    /// `Memory`.
     pub fn suffix(
         &self,
         alloc: Global,
@@ -137,7 +142,7 @@ impl<R: HeldRule, C: CharSet> ReferenceBuf<R, C> {
 impl<'a, C: CharSet> UriParts<'a, C> {
     /// The shortest reference that leads to the very text of the URI of these components, not written
     /// yet: from `http://a/b/c/d` to `http://a/b/` it is `..`. `Memory` says that its length cannot be
-    /// counted. Components that were read from a text are readable.
+    /// counted. Both have to be readable, as components that are read from a text are.
     pub fn relativized(
         &self,
         base: &UriParts<'a, C>,

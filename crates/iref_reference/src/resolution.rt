@@ -46,9 +46,11 @@ fn resolved_uri<C: CharSet>(
 }
 
 impl<R: HeldRule, C: CharSet> Reference<'_, R, C> {
-    /// What the reference resolves to against a base: `../g` and `http://a/b/c` give `http://a/g`.
-    /// A reference without a path keeps the base's as it stands. Where dot segments are removed, the
-    /// result may hold room that it does not need.
+    /// What the reference resolves to against a base (RFC 3986 section 5.2, strict): `../g` and
+    /// `http://a/b/c` give `http://a/g`. A reference without a path keeps the base's as it stands.
+    /// A path that does not begin with `/` keeps each `..` that has no segment to remove: `../x` and
+    /// `s:a` give `s:../x`. Where dot segments are removed, the result may hold room that it does
+    /// not need. Out of memory, it returns `Memory`.
     pub fn resolved(&self, alloc: Global, base: Uri<'_, C>) -> Result<UriBuf<C>, Memory>
         ensures { IfOk result (λ uri. IsResolved (reference_text base.entry)
             (reference_text self.now) (reference_buf_text uri)) }
@@ -82,7 +84,7 @@ impl<R: HeldRule, C: CharSet> Reference<'_, R, C> {
 impl<'a, S: SchemePart<'a>, C: CharSet> Parts<'a, S, C> {
     /// What the reference of these components resolves to against a base, not written yet: `../g`
     /// and `http://a/b/c` give `http://a/g`. `Memory` says that its length cannot be counted.
-    /// Components that were read from a text are readable.
+    /// Both have to be readable, as components that are read from a text are.
     #[tactic(auto, using(crate::proofs::ResolutionLemmas::scheme_of_base))]
     pub fn resolved(&self, base: &UriParts<'a, C>) -> Result<ComposedUri<'a, C>, Memory>
         requires reference { is_readable C.tests (parts_value S.text self.now) ≡ true }
@@ -95,7 +97,8 @@ impl<'a, S: SchemePart<'a>, C: CharSet> Parts<'a, S, C> {
 }
 
 impl<C: CharSet> Uri<'_, C> {
-    /// What a reference resolves to against this base, as `resolved` of the reference.
+    /// What a reference resolves to against this base, as `resolved` of the reference:
+    /// `http://a/b/c` joined with `../g` is `http://a/g`. Out of memory, it returns `Memory`.
     pub fn joined(&self, alloc: Global, reference: UriRef<'_, C>) -> Result<UriBuf<C>, Memory>
         ensures { IfOk result (λ uri. IsResolved (reference_text self.now)
             (reference_text reference.entry) (reference_buf_text uri)) }
@@ -143,7 +146,8 @@ impl<C: CharSet> UriRefBuf<C> {
     }
 
     /// Becomes what it resolves to against a base, as `resolved` of the borrowed reference says:
-    /// `../g` against `http://a/b/c` becomes `http://a/g`. It has a scheme then.
+    /// `../g` against `http://a/b/c` becomes `http://a/g`. It has a scheme then. Out of memory, it
+    /// returns `Memory` and changes nothing.
     pub fn resolve(&mut self, base: Uri<'_, C>) -> Result<(), Memory>
         ensures ok { OnOk result (IsResolved (reference_text base.entry)
             (reference_buf_text self.old) (reference_buf_text self.new)) }
@@ -167,8 +171,8 @@ impl<C: CharSet> UriRefBuf<C> {
         self.resolve(base).or(Err(TryError::Memory))
     }
 
-    /// What it resolves to against a base, as a URI. Out of memory, the call returns the
-    /// reference itself.
+    /// What it resolves to against a base, as a URI: `../g` against `http://a/b/c` becomes
+    /// `http://a/g`. Out of memory, the call returns the reference itself.
     pub fn into_resolved(self, base: Uri<'_, C>) -> Result<UriBuf<C>, (UriRefBuf<C>, Memory)>
         ensures ok { IfOk result (λ uri. IsResolved (reference_text base.entry)
             (reference_buf_text self) (reference_buf_text uri)) }
@@ -204,7 +208,8 @@ impl<C: CharSet> UriRefBuf<C> {
 
 impl<C: CharSet> UriBuf<C> {
     /// Becomes what a reference resolves to against it, as `joined` of the borrowed URI says:
-    /// `http://a/b/c` joined with `../g` becomes `http://a/g`.
+    /// `http://a/b/c` joined with `../g` becomes `http://a/g`. Out of memory, it returns `Memory` and
+    /// changes nothing.
     pub fn join(&mut self, reference: UriRef<'_, C>) -> Result<(), Memory>
         ensures ok { OnOk result (IsResolved (reference_buf_text self.old)
             (reference_text reference.entry) (reference_buf_text self.new)) }

@@ -42,8 +42,9 @@ impl<R: HeldRule, C: CharSet> ReferenceBuf<R, C> {
         self.inner.set_authority(text_of(authority))
     }
 
-    /// Replaces the path, with a guard where it would be read as something else (RFC 3986 section
-    /// 3.3): `x` with `1:2` becomes `./1:2`. Out of memory, it returns `Memory` and changes
+    /// Replaces the path (RFC 3986 section 3.3). After an authority a path that is not empty becomes
+    /// absolute: `//h/a` with `b` becomes `//h/b`. One that would be read as something else is
+    /// guarded: `x` with `1:2` becomes `./1:2`. Out of memory, it returns `Memory` and changes
     /// nothing.
     pub fn set_path(&mut self, path: Path<'_, C>) -> Result<(), Memory>
         ensures { Edits (with_path (path_value path.entry)) self.old self.new result }
@@ -52,7 +53,7 @@ impl<R: HeldRule, C: CharSet> ReferenceBuf<R, C> {
     }
 
     /// Sets the path and normalizes it, as one edit: after an authority `/a/../b/.` leaves `/b/`
-    /// (RFC 3986 section 5.2.4).
+    /// (RFC 3986 section 5.2.4). Out of memory, it returns `Memory` and changes nothing.
     pub fn set_and_normalize_path(&mut self, path: Path<'_, C>) -> Result<(), Memory>
         ensures set { Edits (with_new_normal_path (path_value path.entry)) self.old self.new
             result }
@@ -208,7 +209,7 @@ impl<R: HeldRule, C: CharSet> Reference<'_, R, C> {
         Ok(ReferenceBuf::from_inner(ReferenceText::copied(alloc, self.as_str(), part)?))
     }
 
-    /// A copy under a scheme: of `x`, under `s`, `s:x`.
+    /// A copy under a scheme: of `x`, under `s`, `s:x`. Out of memory, it returns `Memory`.
     pub fn with_scheme(&self, alloc: Global, scheme: Scheme<'_>) -> Result<UriBuf<C>, Memory>
         ensures { StepsFrom (with_scheme (Some (text_of scheme.entry))) self.now result }
     {
@@ -218,7 +219,7 @@ impl<R: HeldRule, C: CharSet> Reference<'_, R, C> {
     }
 
     /// A copy with another authority or none, as `set_authority` leaves it: of `//h/a`, without
-    /// one, `/a`.
+    /// one, `/a`. Out of memory, it returns `Memory`.
     pub fn with_authority(&self, alloc: Global, authority: Option<Authority<'_, C>>) -> Copied<R, C>
         ensures { StepsFrom (with_authority (option_map read_authority (option_map
             text_of authority.entry))) self.now result }
@@ -228,7 +229,8 @@ impl<R: HeldRule, C: CharSet> Reference<'_, R, C> {
         Ok(copy)
     }
 
-    /// A copy with another path, as `set_path` leaves it.
+    /// A copy with another path, as `set_path` leaves it: of `//h/a`, with `b`, `//h/b`. Out of
+    /// memory, it returns `Memory`.
     pub fn with_path(&self, alloc: Global, path: Path<'_, C>) -> Copied<R, C>
         ensures { StepsFrom (with_path (path_value path.entry)) self.now result }
     {
@@ -237,7 +239,8 @@ impl<R: HeldRule, C: CharSet> Reference<'_, R, C> {
         Ok(copy)
     }
 
-    /// A copy with another query or none: of `a?q`, with `r`, `a?r`.
+    /// A copy with another query or none: of `a?q`, with `r`, `a?r`. Out of memory, it returns
+    /// `Memory`.
     pub fn with_query(&self, alloc: Global, query: Option<Query<'_, C>>) -> Copied<R, C>
         ensures { StepsFrom (with_query (option_map text_of query.entry)) self.now result }
     {
@@ -246,7 +249,8 @@ impl<R: HeldRule, C: CharSet> Reference<'_, R, C> {
         Ok(copy)
     }
 
-    /// A copy with another fragment or none: of `a#f`, with none, `a`.
+    /// A copy with another fragment or none: of `a#f`, with none, `a`. Out of memory, it returns
+    /// `Memory`.
     pub fn with_fragment(&self, alloc: Global, fragment: Option<Fragment<'_, C>>) -> Copied<R, C>
         ensures { StepsFrom (with_fragment (option_map text_of fragment.entry))
             self.now result }
@@ -258,7 +262,7 @@ impl<R: HeldRule, C: CharSet> Reference<'_, R, C> {
 }
 
 /// A copy of a reference up to its query and its fragment, under the same rule, with as much room:
-/// of `s:/a?q`, `s:/a` (RFC 3986 section 3).
+/// of `s:/a?q`, `s:/a` (RFC 3986 section 3). Out of memory, it returns `Memory`.
 pub fn copied_hierarchy<R: HeldRule, C: CharSet>(
     reference: &ReferenceBuf<R, C>,
 ) -> Result<ReferenceBuf<R, C>, Memory>
@@ -268,7 +272,8 @@ pub fn copied_hierarchy<R: HeldRule, C: CharSet>(
     Ok(ReferenceBuf::from_inner(reference.inner.copied_hierarchy()?))
 }
 
-/// Makes room for at least this many bytes behind the text, which stays as it is.
+/// Makes room for at least this many bytes behind the text, which stays as it is. Out of memory, it
+/// returns `Memory`.
 pub fn reserve<R: HeldRule, C: CharSet>(
     reference: &mut ReferenceBuf<R, C>,
     additional: usize,
