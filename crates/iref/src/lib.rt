@@ -36,11 +36,13 @@ pub use iri::{InvalidIri, InvalidIriRef, Iri, IriBuf, IriError, IriRef, IriRefBu
 pub use uri::{InvalidUri, InvalidUriRef, Uri, UriBuf, UriError, UriRef, UriRefBuf};
 
 /// The names for code that is generic over components (`Rule`, `BorrowedText`) or over references
-/// (`HeldRule`, `Composed`).
+/// (`HeldRule`, `Reference`, `ReferenceBuf`, `Composed`).
 pub mod rules {
     pub use iref_component::borrowed::BorrowedText;
     pub use iref_component::rule::Rule;
+    pub use iref_reference::borrowed::Reference;
     pub use iref_reference::composed::Composed;
+    pub use iref_reference::owned::ReferenceBuf;
     pub use iref_reference_text::reference_text::HeldRule;
 }
 
