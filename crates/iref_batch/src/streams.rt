@@ -1,6 +1,6 @@
 //! Where lines come from, and where replies go.
 ghost use Rattle.std.specs.Prelude.{◌≡◌, ◌<◌, ◌≤◌, ◌||◌, List, ℕ, Option, Bool, length, false, IfOk, is_err};
-ghost use Rattle.std.specs.{Prelude.{IfSome, OnOk, is_some, true}, Fmt.{with_newline}};
+ghost use Rattle.std.specs.{Prelude.{Some, IfSome, OnOk, MatchResult}, Fmt.{with_newline}, Option.{option_copied}};
 ghost use Rattle.std.specs.Io.KnownBytes.{Appends, Keeps, ReadConsumes, WriteAppends};
 
 use std::fmt::Display;
@@ -55,7 +55,7 @@ pub struct FromStd<X> {
 }
 
 impl<X> FromStd<X> {
-    ghost use Rattle.iref_batch.specs.StdStreams.{inner_of, has_failed};
+    ghost use Rattle.iref_batch.specs.StdStreams.{inner_of, failure_of, has_failed};
 
     /// The reader or writer, with no failed call so far.
     pub fn new(inner: X) -> Self
@@ -78,7 +78,7 @@ impl<X> FromStd<X> {
 
     /// Why a call has failed, if one has.
     pub fn failure(&self) -> Option<&io::Error>
-        ensures { is_some result ≡ has_failed self.now }
+        ensures { option_copied result ≡ failure_of self.now }
     {
         self.failure.as_ref()
     }
@@ -93,7 +93,7 @@ impl<X> FromStd<X> {
 
     // Keeps why a call has failed.
     fn keep(&mut self, error: io::Error) -> StreamError
-        ensures failed { has_failed self.new ≡ true }
+        ensures failure { failure_of self.new ≡ Some error }
         ensures same { inner_of self.new ≡ inner_of self.old }
     {
         self.failure = Some(error);
@@ -102,7 +102,7 @@ impl<X> FromStd<X> {
 }
 
 impl<W: Write> FromStd<W> {
-    ghost use Rattle.iref_batch.specs.StdStreams.{inner_of, has_failed};
+    ghost use Rattle.iref_batch.specs.StdStreams.{inner_of, failure_of, has_failed};
 
     /// Writes a line at once. After an error a beginning of it may stand there.
     pub fn print<T: Display>(&mut self, line: &T) -> Result<(), StreamError>
@@ -135,7 +135,8 @@ impl<W: Write> FromStd<W> {
 
     // Keeps why a call has failed, if it has.
     fn ended(&mut self, done: io::Result<()>) -> Result<(), StreamError>
-        ensures failed { has_failed self.new ≡ has_failed self.old || is_err result }
+        ensures failure { MatchResult done (λ _. failure_of self.new ≡ failure_of self.old)
+            (λ error. failure_of self.new ≡ Some error) }
         ensures same { inner_of self.new ≡ inner_of self.old }
         ensures done { is_err result ≡ is_err done }
     {
@@ -147,9 +148,11 @@ impl<W: Write> FromStd<W> {
 }
 
 impl<R: Read> Source for FromStd<R> {
-    ghost remaining = { λ s. R.remaining s.inner };
+    ghost use Rattle.iref_batch.specs.StdStreams.{inner_of, has_failed};
 
-    ghost has_failed = { λ s. is_some s.failure };
+    ghost remaining = { λ s. R.remaining (inner_of s) };
+
+    ghost has_failed = { has_failed };
 
     fn read(&mut self, buf: &mut [u8]) -> Result<usize, StreamError> {
         match self.inner.read(buf) {
@@ -160,9 +163,11 @@ impl<R: Read> Source for FromStd<R> {
 }
 
 impl<W: Write> Sink for FromStd<W> {
-    ghost contents = { λ s. W.contents s.inner };
+    ghost use Rattle.iref_batch.specs.StdStreams.{inner_of, has_failed};
 
-    ghost has_failed = { λ s. is_some s.failure };
+    ghost contents = { λ s. W.contents (inner_of s) };
+
+    ghost has_failed = { has_failed };
 
     /// A write that takes no byte of some has failed.
     fn write(&mut self, bytes: &[u8]) -> Result<usize, StreamError> {
