@@ -37,11 +37,12 @@ pub data LineAnswer : Type 0 where
   InvalidText : LineAnswer
   RefusedEdit : LineAnswer
 
--- the edits by name: with an optional value, a value, and none
+-- the edit, if there is no value
 abbrev pub bare : EditStep → Option Text → Option EditStep
 bare step None = Some step
 bare step (Some value) = None
 
+-- the edits by name: with an optional value, a value, and none
 abbrev pub edit_names : List (Text × (Option Text → Option EditStep))
 edit_names =
     (codes "scheme", λ v. Some (SetScheme v)) ∷ (codes "authority", λ v. Some (SetAuthority v))
@@ -62,26 +63,31 @@ read_edit field =
 abbrev pub read_entry : Text → Option PrefixEntry
 read_entry field = option_map (λ iri. record { label = before (equals_sign ∷ []) field; iri = iri }) (after equals_sign field)
 
--- the verbs, each with its number of fields
+-- the request about the text of one field
 abbrev pub one_text : (Text → Request) → List Text → Option Request
 one_text request [] = None
 one_text request (r ∷ fields) = if is_empty fields then Some (request r) else None
 
+-- the request about the texts of two fields
 abbrev pub two_texts : (Text → Text → Request) → List Text → Option Request
 two_texts request [] = None
 two_texts request (r ∷ fields) = one_text (request r) fields
 
+-- a text, and edits of it
 abbrev pub text_and_edits : List Text → Option Request
 text_and_edits [] = None
 text_and_edits (r ∷ fields) = option_map (Edit r) (all_some (map read_edit fields))
 
+-- a text, and entries of a table
 abbrev pub text_and_entries : (Text → List PrefixEntry → Request) → List Text → Option Request
 text_and_entries request [] = None
 text_and_entries request (t ∷ fields) = option_map (request t) (all_some (map read_entry fields))
 
+-- verbs, each with what its fields ask for
 abbrev pub Verbs : Type 0
 Verbs = List (Text × (List Text → Option Request))
 
+-- the verbs, each with its number of fields
 abbrev pub all_verbs : Verbs
 all_verbs =
     (codes "parts", one_text Parts) ∷ (codes "resolve", two_texts Resolve) ∷ (codes "relative", two_texts Relative)
@@ -95,7 +101,7 @@ read_fields verbs (verb ∷ fields) = option_and_then (λ v. v.1 fields) (find (
 unfoldable pub read_line : Verbs → Text → Option Request
 read_line verbs line = read_fields verbs (pieces_at tab line)
 
--- each text of the request is in its grammar
+-- the value of the edit is in its grammar
 abbrev pub is_valid_edit : CharTests → EditStep → Bool
 is_valid_edit set (SetScheme scheme) = none_or is_scheme scheme
 is_valid_edit set (SetAuthority authority) = none_or (is_authority set) authority
@@ -115,9 +121,11 @@ is_valid_edit set Pop = true
 is_valid_edit set Clear = true
 is_valid_edit set Normalize = true
 
+-- all IRIs are in their grammar, and one table takes all entries
 abbrev pub are_valid_entries : CharTests → List PrefixEntry → Bool
 are_valid_entries set entries = list_all (λ (e : PrefixEntry). is_uri set e.iri) entries && is_some (inserted_all entries (ascii_table []))
 
+-- each text of the request is in its grammar
 unfoldable pub is_valid : CharTests → Request → Bool
 is_valid set (Parts r) = is_reference set r
 is_valid set (Resolve r base) = is_reference set r && is_uri set base
@@ -178,12 +186,13 @@ answer_text BadCommand = codes "error command"
 answer_text InvalidText = codes "error invalid"
 answer_text RefusedEdit = codes "error edit"
 
--- lines end with a newline; a last one without it counts if it is not empty
+-- the lines without the last one, if that is empty
 abbrev pub without_empty_last : List Text → List Text
 without_empty_last [] = []
 without_empty_last (line ∷ lines) =
     if is_empty lines then (if is_empty line then [] else line ∷ []) else line ∷ without_empty_last lines
 
+-- lines end with a newline; a last one without it counts if it is not empty
 abbrev pub lines_of : Text → List Text
 lines_of input = without_empty_last (pieces_at newline input)
 

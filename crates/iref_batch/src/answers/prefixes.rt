@@ -81,7 +81,8 @@ fn put_short(short: Compact<'_>, out: &mut Vec<u8>) -> Result<(), Memory>
 // Puts the answer of what a table makes of an IRI.
 fn put_compact(table: &Prefixes, text: &[u8], out: &mut Vec<u8>) -> Result<(), Memory>
     requires { are_valid_entries iri_chars table.now.entries ≡ true }
-    ensures { PutsReply (spec.Compact text.now table.now.entries) out.old.items out.new.items result }
+    ensures { PutsReply (spec.Compact text.now table.now.entries)
+        out.old.items out.new.items result }
 {
     let Ok(iri) = Iri::from_bytes(text) else {
         return put_text(b"error invalid", out);
@@ -95,7 +96,8 @@ fn put_compact(table: &Prefixes, text: &[u8], out: &mut Vec<u8>) -> Result<(), M
 // Puts the answer of the IRI that a text stands for in a table.
 fn put_expanded(table: &Prefixes, text: &[u8], out: &mut Vec<u8>) -> Result<(), Memory>
     requires { are_valid_entries iri_chars table.now.entries ≡ true }
-    ensures { PutsReply (spec.Expand text.now table.now.entries) out.old.items out.new.items result }
+    ensures { PutsReply (spec.Expand text.now table.now.entries)
+        out.old.items out.new.items result }
 {
     let Ok(text) = str::from_utf8(text) else {
         return put_text(b"error invalid", out);
