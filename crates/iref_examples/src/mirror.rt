@@ -1,9 +1,8 @@
 //! Links rewritten relative to their page, and the shortest to a text (RFC 3986 section 5.2).
-ghost use Rattle.std.specs.Prelude.{IfOk, MatchOption};
-ghost use Rattle.iref.specs.{Characters.{uri_chars}, Grammar.{IsUri, IsUriReference}, Reference.{read_reference}};
-ghost use Rattle.iref.specs.{Rules.{InUtf8}, References.{reference_buf_value, reference_value}};
-ghost use Rattle.iref.specs.References.{reference_buf_text, reference_text};
-ghost use Rattle.iref_examples.specs.Links.{IsExactLink, IsRelinked};
+ghost use Rattle.std.specs.Prelude.{◌↔◌, IfOk, IfSome, IsSome};
+ghost use Rattle.iref.specs.{Characters.{iri_chars}, Reference.{read_reference}, Shortest.{NoneIsShorter}};
+ghost use Rattle.iref.specs.References.{reference_buf_text, reference_buf_value, reference_text, reference_value};
+ghost use Rattle.iref_examples.specs.Links.{AreUriAndReference, IsExactLink, IsRelinked};
 
 use iref::Memory;
 use iref::iri::{Iri, IriRefBuf};
@@ -23,10 +22,10 @@ pub fn from_page(alloc: Global, page: Uri<'_>, link: UriRef<'_>) -> Result<UriRe
 
 /// The mirrored link by texts; None exactly where the page is no URI or the link no reference.
 pub fn relinked(alloc: Global, page: &str, link: &str) -> Result<Option<UriRefBuf>, Memory>
-    ensures { IfOk result (λ answer. MatchOption answer
-        (¬ (InUtf8 (IsUri uri_chars) page.now × InUtf8 (IsUriReference uri_chars) link.now))
-        (λ answer. IsRelinked (read_reference page.now) (read_reference link.now)
-        (reference_buf_value answer))) }
+    ensures some { IfOk result (λ answer. IsSome answer
+        ↔ AreUriAndReference page.now link.now) }
+    ensures relinked { IfOk result (λ answer. IfSome answer (λ answer. IsRelinked
+        (read_reference page.now) (read_reference link.now) (reference_buf_value answer))) }
 {
     let (Ok(page), Ok(link)) = (Uri::new(page), UriRef::new(link)) else {
         return Ok(None);
@@ -34,11 +33,13 @@ pub fn relinked(alloc: Global, page: &str, link: &str) -> Result<Option<UriRefBu
     Ok(Some(from_page(alloc, page, link)?))
 }
 
-/// The link from a page to the very text of a target, as in RDF: on `http://a/~b/d`,
+/// The shortest link from a page to the very text of a target, as in RDF: on `http://a/~b/d`,
 /// `http://a/%7Eb/c` becomes `/%7Eb/c`. The target stays whole where no reference leads to it.
 pub fn exact_link(alloc: Global, page: Iri<'_>, target: Iri<'_>) -> Result<IriRefBuf, Memory>
-    ensures { IfOk result (λ link. IsExactLink (reference_text page.entry)
+    ensures exact { IfOk result (λ link. IsExactLink (reference_text page.entry)
         (reference_text target.entry) (reference_buf_text link)) }
+    ensures shortest { IfOk result (λ link. NoneIsShorter iri_chars
+        (reference_text target.entry) (reference_text page.entry) (reference_buf_text link)) }
 {
     match target.relativized(alloc, page)? {
         Some(link) => Ok(link),
