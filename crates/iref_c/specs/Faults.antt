@@ -17,7 +17,7 @@ number_of_component component.Path = number.PATH
 number_of_component component.Query = number.QUERY
 number_of_component component.Fragment = number.FRAGMENT
 
--- none of a reference is that there is no scheme
+-- `NoScheme` is no cause of a reference, which needs no scheme
 abbrev pub number_of_cause : Cause → ℕ
 number_of_cause (Invalid c) = number_of_component c
 number_of_cause NoScheme = number.SCHEME

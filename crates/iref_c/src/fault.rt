@@ -37,7 +37,7 @@ pub const FRAGMENT: usize = 7;
 /// The bytes are not UTF-8.
 pub const NOT_UTF8: usize = 8;
 
-// The number of a cause. Of references none is that there is no scheme.
+// The number of a cause. `NoScheme` is no cause of a reference, which needs no scheme.
 fn number_of(cause: Cause) -> usize
     ensures { result ≡ number_of_cause cause }
 {

@@ -8,7 +8,7 @@ pub const INVALID: u32 = 1;
 pub const SECOND_INVALID: u32 = 2;
 /// The buffer is too short.
 pub const SHORT: u32 = 3;
-/// Memory is wanted.
+/// Memory was refused, or a length cannot be counted.
 pub const MEMORY: u32 = 4;
 /// There is nothing that can be written.
 pub const NONE: u32 = 5;
