@@ -1,5 +1,5 @@
 //! How far a program has come, and how it ends.
-ghost use Rattle.std.specs.{Prelude.{◌≡◌, ◌<◌, ◌≤◌, ◌*◌, ◌/◌}, Process.{exit_status}};
+ghost use Rattle.std.specs.{Prelude.{◌≡◌, ◌<◌, ◌≤◌, ◌*◌, ◌/◌, max}, Process.{exit_status}};
 ghost use Rattle.iref_batch.specs.Statuses.{number_of};
 
 use std::process::ExitCode;
@@ -25,6 +25,15 @@ pub enum Status {
     Wrong,
     /// The words are wrong, or a file cannot be read.
     Misused,
+}
+
+impl Status {
+    /// The worse of two: of `Well` and `Wrong`, `Wrong`.
+    pub fn worse(self, other: Status) -> Status
+        ensures { number_of result ≡ max (number_of self) (number_of other) }
+    {
+        self.max(other)
+    }
 }
 
 impl From<Status> for ExitCode {

@@ -1,12 +1,13 @@
 -- What a job has written for a line, and for files.
-use Rattle.std.proofs.Common.{◌≡◌, ◌+◌, ◌<◌, ℕ, Bool, true, false, List, [], ◌∷◌, ◌++◌, Option, Some, None, IfSome, ap, arith, fold, length, map, max, option_map, refl, slice_index_or, subst, sym, take, ◌∙◌, inl, inr, append-nil}
+use Rattle.std.proofs.Common.{◌≡◌, ◌+◌, ◌<◌, ◌≤◌, ℕ, Bool, true, false, List, [], ◌∷◌, ◌++◌, Option, Some, None, IfSome, OnOk, Result, ap, arith, fold, length, map, max, option_map, refl, slice_index_or, subst, sym, take, ◌∙◌, inl, inr, append-nil}
 use Rattle.std.proofs.{lemmas.Grind.{common_steps}, lemmas.List.{map-append}, lemmas.List.Sums.{fold-append}}
-use Rattle.std.specs.{Borrow.{Bor}, Fmt.{with_newline as with_end}, Io.KnownBytes.{Appends}}
+use Rattle.std.proofs.{KnownBytes.{Appends-trans}, lemmas.Grind.{flat_map-append}}
+use Rattle.std.specs.{Borrow.{Bor}, Fmt.{with_newline as with_end}, Io.KnownBytes.{Appends, Keeps}}
 use Rattle.iref.specs.Rules.{Text}
-use Rattle.iref_batch.specs.{Gathering.{Gains, Writes}, Runs.{with_newline}, Statuses.{number_of}, StdStreams.{inner_of}}
-use Rattle.iref_batch.specs.declared.status.{Status.{Status}, Status.TheVariants.{Well}}
+use Rattle.iref_batch.specs.{Gathering.{Gains, Writes}, Runs.{with_newline, with_newlines}, Statuses.{number_of}, StdStreams.{inner_of}}
+use Rattle.iref_batch.specs.declared.status.Status.{Status}
 use Rattle.iref_batch.proofs.Writing.{gains_gathered, gains_written, writes_from_appends, writes_more}
-use Rattle.iref_tool.specs.JobRuns.{DoesFiles, DoesJob, StaysAt, all_text, next_number}
+use Rattle.iref_tool.specs.JobRuns.{DoesFiles, DoesJob, StaysAt, TurnsWrong, all_text, next_number}
 use Rattle.iref_tool.specs.{Jobs.{IsFaultOf, Outcome, Written}, Notes.{note_text, text_for_wrong}, Streams.{GivesFile}}
 use Rattle.iref_tool.specs.declared.{jobs.LineFault.{LineFault}, jobs.LineFault.TheVariants.{Memory}, texts.Texts.{Texts}}
 
@@ -53,8 +54,7 @@ module _ {J W E : Type 0} {outcome : J → Text → Outcome} {goes_on : J → Op
   pub job_kept : new.job ≡ old.job → new.status ≡ old.status → StaysAt old new → new.out ≡ old.out → new.answers.items ≡ old.answers.items → DoesJob outcome goes_on contents old [] new
   job_kept job status place out answers = record {
     texts = [];
-    does = job;
-    stays_well = λ (w : new.status ≡ Well). cc;
+    does = (job, status);
     gains = rw out (gains_gathered [] (contents (inner_of old.out)) old.answers.items new.answers.items (answers ∙ sym (append-nil old.answers.items)));
     file = place.0;
     numbers = place.1;
@@ -65,8 +65,7 @@ module _ {J W E : Type 0} {outcome : J → Text → Outcome} {goes_on : J → Op
   pub job_flushed : new.job ≡ old.job → new.status ≡ old.status → StaysAt old new → new.answers.items ≡ [] → Writes old.answers.items (contents (inner_of old.out)) (contents (inner_of new.out)) → DoesJob outcome goes_on contents old [] new
   job_flushed job status place none written = record {
     texts = [];
-    does = job;
-    stays_well = λ (w : new.status ≡ Well). cc;
+    does = (job, status);
     gains = gains_written [] (contents (inner_of old.out)) (contents (inner_of new.out)) old.answers.items new.answers.items none (rw append-nil written);
     file = place.0;
     numbers = place.1;
@@ -77,8 +76,7 @@ module _ {J W E : Type 0} {outcome : J → Text → Outcome} {goes_on : J → Op
   pub line_answered : (line text : Text) → outcome old.job line ≡ Written text → goes_on old.job (Some line) new.job → new.status ≡ old.status → new.file ≡ old.file → new.number ≡ next_number old.number → new.reports ≡ old.reports → new.out ≡ old.out → new.answers.items ≡ old.answers.items ++ text → DoesJob outcome goes_on contents old (Some line ∷ []) new
   line_answered line text is goes status file number reports out answers = record {
     texts = Some text ∷ [];
-    does = (new.job, inl (text, is, refl, goes), refl);
-    stays_well = λ (w : new.status ≡ Well). cc;
+    does = (new.job, new.status, inl (text, is, refl, goes, status), (refl, refl));
     gains = rw (out, append-nil) (gains_gathered text (contents (inner_of old.out)) old.answers.items new.answers.items answers);
     file = file;
     numbers = number;
@@ -91,7 +89,7 @@ IsSaidOf contents line fault now new =
     IsSaid now.reports now.file.now now.number line fault (contents (inner_of now.out)) (contents (inner_of new.out)) now.answers.items new.answers.items
 
 -- a line came in that is wrong
-module _ {J W E : Type 0} (contents : W → Option Text) (line : Text) (fault : LineFault) (old now new : Texts J W E) (file : now.file ≡ old.file) (number : now.number ≡ next_number old.number) (reports : now.reports ≡ old.reports) (out : now.out ≡ old.out) (answers : now.answers.items ≡ old.answers.items) (said : IsSaidOf contents line fault now new) where
+module _ {J W E : Type 0} (contents : W → Option Text) (line : Text) (fault : LineFault) (old now new : Texts J W E) (status : now.status ≡ old.status) (file : now.file ≡ old.file) (number : now.number ≡ next_number old.number) (reports : now.reports ≡ old.reports) (out : now.out ≡ old.out) (answers : now.answers.items ≡ old.answers.items) (said : IsSaidOf contents line fault now new) where
   abbrev pub said_of : Option Text
   said_of = text_for_wrong old.reports old.file.now (next_number old.number) line fault
 
@@ -101,12 +99,14 @@ module _ {J W E : Type 0} (contents : W → Option Text) (line : Text) (fault : 
   gains_said : IfSome (all_text (said_of ∷ [])) (λ text. Gains text (contents (inner_of old.out)) (contents (inner_of new.out)) old.answers.items new.answers.items)
   gains_said = if_last _ said_of (rw (← said_now, ← out, ← answers) said)
 
-  module _ (outcome : J → Text → Outcome) (goes_on : J → Option Text → J → Type 0) (place : StaysAt now new) (wrong : new.status ≡ Well → ⊥) where
+  module _ (outcome : J → Text → Outcome) (goes_on : J → Option Text → J → Type 0) (place : StaysAt now new) (wrong : TurnsWrong now.status new.status) where
+    turned : TurnsWrong old.status new.status
+    turned = wrong ∙ ap (λ s. max (number_of s) 1) status
+
     pub line_wrong : IsFaultOf (outcome old.job line) fault → goes_on old.job None new.job → DoesJob outcome goes_on contents old (Some line ∷ []) new
     line_wrong is goes = record {
       texts = said_of ∷ [];
-      does = (new.job, inr (fault, is, refl, wrong, goes), refl);
-      stays_well = λ (w : new.status ≡ Well). absurd (wrong w);
+      does = (new.job, new.status, inr (fault, is, refl, goes, turned), (refl, refl));
       gains = gains_said;
       file = place.0 ∙ file;
       numbers = place.1 ∙ number;
@@ -117,8 +117,7 @@ module _ {J W E : Type 0} (contents : W → Option Text) (line : Text) (fault : 
     pub line_refused : line ≡ [] → fault ≡ Memory → new.job ≡ old.job → DoesJob outcome goes_on contents old (None ∷ []) new
     line_refused none memory same = record {
       texts = said_of ∷ [];
-      does = (new.job, (wrong, same, λ i. text_for_wrong old.reports old.file.now (next_number old.number) (none i) (memory i)), refl);
-      stays_well = λ (w : new.status ≡ Well). absurd (wrong w);
+      does = (new.job, new.status, (same, λ i. text_for_wrong old.reports old.file.now (next_number old.number) (none i) (memory i), turned), (refl, refl));
       gains = gains_said;
       file = place.0 ∙ file;
       numbers = place.1 ∙ number;
@@ -143,3 +142,30 @@ pub worst_more : (statuses : List Status) (status now new : Status) → number_o
 worst_more statuses status now new e f =
     f ∙ ap (λ n. max n (number_of status)) e ∙ sym (fold-append max 0 (map number_of statuses) (number_of status ∷ []))
     ∙ ap (fold max 0) (sym (map-append number_of statuses (status ∷ [])))
+
+-- lines are written
+module _ {R : Type 0} (text : R → Text) (lines : List R) (i : ℕ) where
+  -- one line more was written, and its LF
+  pub one_more_line : (other : R) (bytes : Text) → i < length lines → bytes ≡ text (slice_index_or lines i other) → (a b c d : Option Text) → Appends a b (with_newlines (map text (take i lines))) → Appends b c bytes → Appends c d (10 ∷ []) → Appends a d (with_newlines (map text (take (i + 1) lines)))
+  one_more_line other bytes under is a b c d f g h =
+      let last = slice_index_or lines i other in
+      let taken : take i lines ++ last ∷ [] ≡ take (i + 1) lines = grind (arith, common_steps) in
+      let written : with_newlines (map text (take i lines)) ++ (text last ++ 10 ∷ []) ≡ with_newlines (map text (take i lines ++ last ∷ [])) =
+      sym (ap with_newlines (map-append text (take i lines) (last ∷ [])) ∙ flat_map-append with_newline (map text (take i lines)) (text last ∷ []) ∙ ap (λ t. with_newlines (map text (take i lines)) ++ t) (append-nil (with_newline (text last)))) in
+      subst (λ l. Appends a d (with_newlines (map text l))) taken (subst (Appends a d) written (Appends-trans a b d _ _ f (Appends-trans b c d _ _ (subst (Appends b c) is g) h)))
+
+  appends_kept : (a b c : Option Text) (bytes : Text) → Appends a b bytes → Keeps b c → Appends a c bytes
+  appends_kept None b c bytes f k = tt
+  appends_kept (Some x) None c bytes f k = absurd f
+  appends_kept (Some x) (Some y) None bytes f k = absurd k
+  appends_kept (Some x) (Some y) (Some z) bytes f k = k ∙ f
+
+  -- all were written, and what was written is kept
+  pub lines_written : length lines ≤ i → (a b c : Option Text) → Appends a b (with_newlines (map text (take i lines))) → Keeps b c → Appends a c (with_newlines (map text lines))
+  lines_written over a b c f k =
+      let all : take i lines ≡ lines = grind (arith, common_steps) in
+      subst (λ l. Appends a c (with_newlines (map text l))) all (appends_kept a b c _ f k)
+
+-- what holds anyway holds where a call went well
+pub on_ok : {T E P : Type 0} (r : Result T E) → P → OnOk r P
+on_ok r p = grind arith

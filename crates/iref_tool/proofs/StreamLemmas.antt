@@ -1,11 +1,11 @@
 -- How the lines of an input are given.
-use Rattle.std.proofs.Common.{◌≡◌, ℕ, true, false, List, [], ◌∷◌, ◌++◌, Option, Result, Ok, Err, refl, take, append-nil, append_assoc}
+use Rattle.std.proofs.Common.{◌≡◌, ℕ, true, false, List, [], ◌∷◌, ◌++◌, Option, Result, Ok, Err, IfSome, OnOk, take, append-nil, append_assoc}
 use Rattle.std.proofs.KnownBytes.{Consumes-kept, Consumes-nil, Consumes-trans}
 use Rattle.std.specs.{Io.KnownBytes.{Consumes, IsAtEnd, Keeps}, List.{AllZip}}
 use Rattle.iref.specs.{Rules.{Text}, Texts.{is_empty}}
-use Rattle.iref_batch.specs.{Gathering.{IsLine, IsNothing}, Lines.{lines_of}, Runs.{ended_lines, with_newline}, declared.lines.Begun.{Begun}}
+use Rattle.iref_batch.specs.{Gathering.{IsLine, IsNothing}, Lines.{lines_of}, Runs.{ended_lines, with_newline}, declared.{lines.Begun.{Begun}, status.Status.{Status}}}
 use Rattle.iref_batch.proofs.SeenLemmas.{ended_lines_of_seen, lines_of_all_seen, lines_of_seen, seen_line, seen_nothing, seen_part}
-use Rattle.iref_tool.specs.Streams.{IsGiven, GivesAll, GivesBeginning, GivesLine, GivesLines, InInput, OnReadError, ReadsMore}
+use Rattle.iref_tool.specs.Streams.{IsGiven, GivesAll, GivesBeginning, GivesFile, GivesLine, GivesLines, InInput, OnReadError, ReadsMore, status_read}
 use Rattle.iref_tool.specs.declared.input.{Failure.{Failure}, Failure.TheVariants.{Read, Write}}
 
 IsGiven-push : (lines : List Text) (all : List (Option Text)) (line : Text) (last : Option Text) → AllZip IsGiven lines all → IsGiven line last → AllZip IsGiven (lines ++ line ∷ []) (all ++ last ∷ [])
@@ -125,10 +125,16 @@ on_read_error (Ok done) p = tt
 on_read_error (Err Write) p = tt
 on_read_error (Err (Read error)) p = p
 
-pub at_read_error : {P : Type 0} (failure : Failure) → (failure ≡ Write → ⊥) → OnReadError (Err failure) P → P
-at_read_error (Read error) is p = p
-at_read_error Write is p = absurd (is refl)
-
 -- of a text that was not read
 pub nothing_given : {T : Type 0} {given : T → List (Option Text) → T → Type 0} {now : T} → given now [] now → (text : Text) × GivesLines given (ended_lines text) now now
 nothing_given none = ([], record { lines = []; are_given = tt; taken = none })
+
+module _ {T : Type 0} (given : T → List (Option Text) → T → Type 0) (both : (old mid new : T) (lines others : List (Option Text)) → given old lines mid → given mid others new → given old (lines ++ others) new) (old mid new : T) (none : given mid [] new) where
+  -- a file was read, and no line was given since
+  file_given_by : (read : Result (Unit {0}) Failure) → OnOk read ((text : Text) × GivesLines given (lines_of text) old mid) → OnReadError read ((text : Text) × GivesLines given (ended_lines text) old mid) → IfSome (status_read read) (λ status. GivesFile given status old new)
+  file_given_by (Ok done) lines cut = (lines.0, given_since given both (lines_of lines.0) old mid new none lines.1)
+  file_given_by (Err Write) lines cut = tt
+  file_given_by (Err (Read error)) lines cut = (cut.0, given_since given both (ended_lines cut.0) old mid new none cut.1)
+
+  pub file_given : (read : Result (Unit {0}) Failure) (status : Option Status) → status ≡ status_read read → OnOk read ((text : Text) × GivesLines given (lines_of text) old mid) → OnReadError read ((text : Text) × GivesLines given (ended_lines text) old mid) → IfSome status (λ s. GivesFile given s old new)
+  file_given read status is lines cut = rw is (file_given_by read lines cut)

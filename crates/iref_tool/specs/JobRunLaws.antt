@@ -1,10 +1,10 @@
 -- Laws of the lines that a job was given.
 use Rattle.std.specs.Prelude.{◌≡◌, ℕ, Bool, List, [], ◌∷◌, ◌++◌, Option, Some, None, IfSome, refl}
 use Rattle.std.specs.{Borrow.{Bor}, Fmt.{◌++?◌}}
-use Rattle.std.proofs.{Common.{sym, ap, ◌∙◌, subst, inl, inr, append_assoc, arith}, lemmas.Grind.{common_steps}}
+use Rattle.std.proofs.{Common.{sym, ap, ◌∙◌, subst, append_assoc, arith}, lemmas.Grind.{common_steps}}
 use Rattle.iref.specs.Rules.{Text}
-use Rattle.iref_batch.specs.{Gathering.{Gains}, StdStreams.{inner_of}, declared.status.Status.TheVariants.{Well}}
-use Rattle.iref_tool.specs.{JobRuns.{DoesJob, DoesLine, DoesLines, all_text, next_number, number_after}, Jobs.{Outcome}, Notes.{text_for_wrong}}
+use Rattle.iref_batch.specs.{Gathering.{Gains}, StdStreams.{inner_of}, declared.status.Status.{Status}}
+use Rattle.iref_tool.specs.{JobRuns.{DoesJob, DoesLines, all_text, next_number, number_after}, Jobs.{Outcome}, Notes.{text_for_wrong}}
 use Rattle.iref_tool.specs.declared.{jobs.LineFault.{LineFault}, texts.Texts.{Texts}}
 
 number_after-both : (number : ℕ) (lines others : List (Option Text)) → number_after number (lines ++ others) ≡ number_after (number_after number lines) others
@@ -12,29 +12,18 @@ number_after-both number [] others = refl
 number_after-both number (line ∷ lines) others = number_after-both (next_number number) lines others
 
 module _ {J : Type 0} (outcome : J → Text → Outcome) (goes_on : J → Option Text → J → Type 0) where
-  DoesLine-weaker : (for_wrong : Text → LineFault → Option Text) (well still : Type 0) → (still → well) → (old : J) (line : Option Text) (text : Option Text) (new : J) → DoesLine outcome goes_on for_wrong well old line text new → DoesLine outcome goes_on for_wrong still old line text new
-  DoesLine-weaker for_wrong well still f old None text new d = (λ w. d.0 (f w), d.1, d.2)
-  DoesLine-weaker for_wrong well still f old (Some line) text new (inl d) = inl d
-  DoesLine-weaker for_wrong well still f old (Some line) text new (inr d) = inr (d.0, d.1, d.2, λ w. d.3 (f w), d.4)
-
-  module _ (for_wrong : ℕ → Text → LineFault → Option Text) where
-    DoesLines-weaker : (well still : Type 0) → (still → well) → (number : ℕ) (old : J) (lines : List (Option Text)) (texts : List (Option Text)) (new : J) → DoesLines outcome goes_on for_wrong well number old lines texts new → DoesLines outcome goes_on for_wrong still number old lines texts new
-    DoesLines-weaker well still f number old [] [] new d = d
-    DoesLines-weaker well still f number old [] (text ∷ texts) new d = d
-    DoesLines-weaker well still f number old (line ∷ lines) [] new d = d
-    DoesLines-weaker well still f number old (line ∷ lines) (text ∷ texts) new d =
-        let next = next_number number in
-        (d.0, DoesLine-weaker (for_wrong next) well still f old line text d.0 d.1, DoesLines-weaker well still f next d.0 lines texts new d.2)
-
-    DoesLines-both : (well : Type 0) (number : ℕ) (old mid new : J) (lines others : List (Option Text)) (texts more : List (Option Text)) → DoesLines outcome goes_on for_wrong well number old lines texts mid → DoesLines outcome goes_on for_wrong well (number_after number lines) mid others more new → DoesLines outcome goes_on for_wrong well number old (lines ++ others) (texts ++ more) new
-    DoesLines-both well number old mid new [] others [] more d e = subst (λ j. DoesLines outcome goes_on for_wrong well number j others more new) d e
-    DoesLines-both well number old mid new [] others (text ∷ texts) more d e = absurd d
-    DoesLines-both well number old mid new (line ∷ lines) others [] more d e = absurd d
-    DoesLines-both well number old mid new (line ∷ lines) others (text ∷ texts) more d e = (d.0, d.1, DoesLines-both well (next_number number) d.0 mid new lines others texts more d.2 e)
+  DoesLines-both : (for_wrong : ℕ → Text → LineFault → Option Text) (number : ℕ) (old mid new : J) (before between after : Status) (lines others : List (Option Text)) (texts more : List (Option Text)) → DoesLines outcome goes_on for_wrong number old before lines texts mid between → DoesLines outcome goes_on for_wrong (number_after number lines) mid between others more new after → DoesLines outcome goes_on for_wrong number old before (lines ++ others) (texts ++ more) new after
+  DoesLines-both for_wrong number old mid new before between after [] others [] more d e =
+      subst (λ j. DoesLines outcome goes_on for_wrong number j before others more new after) d.0
+      (subst (λ s. DoesLines outcome goes_on for_wrong number mid s others more new after) d.1 e)
+  DoesLines-both for_wrong number old mid new before between after [] others (text ∷ texts) more d e = absurd d
+  DoesLines-both for_wrong number old mid new before between after (line ∷ lines) others [] more d e = absurd d
+  DoesLines-both for_wrong number old mid new before between after (line ∷ lines) others (text ∷ texts) more d e =
+      (d.0, d.1, d.2, DoesLines-both for_wrong (next_number number) d.0 mid new d.1 between after lines others texts more d.3 e)
 
   -- the same file, number and place
-  DoesLines-moved : (old new : J) (lines texts : List (Option Text)) (well : Type 0) (file same : Bor Text) (number after : ℕ) (reports also : Bool) → same ≡ file → after ≡ number → also ≡ reports → DoesLines outcome goes_on (text_for_wrong also same.now) well after old lines texts new → DoesLines outcome goes_on (text_for_wrong reports file.now) well number old lines texts new
-  DoesLines-moved old new lines texts well file same number after reports also e f g d = rw (← e, ← f, ← g) d
+  DoesLines-moved : (old new : J) (before after : Status) (lines texts : List (Option Text)) (file same : Bor Text) (number other : ℕ) (reports also : Bool) → same ≡ file → other ≡ number → also ≡ reports → DoesLines outcome goes_on (text_for_wrong also same.now) other old before lines texts new after → DoesLines outcome goes_on (text_for_wrong reports file.now) number old before lines texts new after
+  DoesLines-moved old new before after lines texts file same number other reports also e f g d = rw (← e, ← f, ← g) d
 
 nothing_before : (text : Option Text) → Some [] ++? text ≡ text
 nothing_before None = refl
@@ -70,8 +59,7 @@ module _ {J W E : Type 0} (outcome : J → Text → Outcome) (goes_on : J → Op
   pub DoesJob-nothing : (s : Texts J W E) → DoesJob outcome goes_on contents s [] s
   DoesJob-nothing s = record {
     texts = [];
-    does = refl;
-    stays_well = λ w. w;
+    does = (refl, refl);
     gains = λ xs e. ([], grind (arith, common_steps), grind (arith, common_steps));
     file = refl;
     numbers = refl;
@@ -81,14 +69,11 @@ module _ {J W E : Type 0} (outcome : J → Text → Outcome) (goes_on : J → Op
   -- the job was done with lines, and then with others
   pub DoesJob-both : (old mid new : Texts J W E) (lines others : List (Option Text)) → DoesJob outcome goes_on contents old lines mid → DoesJob outcome goes_on contents mid others new → DoesJob outcome goes_on contents old (lines ++ others) new
   DoesJob-both old mid new lines others f g =
-      let well = new.status ≡ Well in
       let for_wrong = text_for_wrong old.reports old.file.now in
       record {
         texts = f.texts ++ g.texts;
-        does = DoesLines-both outcome goes_on for_wrong well old.number old.job mid.job new.job lines others f.texts g.texts
-            (DoesLines-weaker outcome goes_on for_wrong (mid.status ≡ Well) well g.stays_well old.number old.job lines f.texts mid.job f.does)
-            (DoesLines-moved outcome goes_on mid.job new.job others g.texts well old.file mid.file (number_after old.number lines) mid.number old.reports mid.reports f.file f.numbers f.reports g.does);
-        stays_well = λ w. f.stays_well (g.stays_well w);
+        does = DoesLines-both outcome goes_on for_wrong old.number old.job mid.job new.job old.status mid.status new.status lines others f.texts g.texts f.does
+            (DoesLines-moved outcome goes_on mid.job new.job mid.status new.status others g.texts old.file mid.file (number_after old.number lines) mid.number old.reports mid.reports f.file f.numbers f.reports g.does);
         gains = rw (all_text-both f.texts g.texts)
             (if_both (gains old mid) (gains mid new) (gains old new) (all_text f.texts) (all_text g.texts)
             (λ a b p q. Gains-both a b _ _ _ old.answers.items mid.answers.items new.answers.items p q) f.gains g.gains);

@@ -1,9 +1,9 @@
 -- What a job has written for the lines that it was given.
-use Rattle.std.specs.Prelude.{◌≡◌, ◌⊎◌, ◌+◌, ◌-◌, ◌^◌, ℕ, List, [], ◌∷◌, Option, Some, None, IfSome, min}
+use Rattle.std.specs.Prelude.{◌≡◌, ◌⊎◌, ◌+◌, ◌-◌, ◌^◌, ℕ, List, [], ◌∷◌, Option, Some, None, IfSome, fold, map, max, min}
 use Rattle.std.specs.{Borrow.{Bor}, Fmt.{◌++?◌}}
 use Rattle.iref.specs.Rules.{Text}
 use Rattle.iref_batch.specs.{Gathering.{Gains}, StdStreams.{inner_of}}
-use Rattle.iref_batch.specs.declared.status.{Status.{Status}, Status.TheVariants.{Well}}
+use Rattle.iref_batch.specs.{Statuses.{number_of}, declared.status.{Status.{Status}, Status.TheVariants.{Wrong}}}
 use Rattle.iref_tool.specs.{Jobs.{IsFaultOf, Outcome, Written}, Notes.{text_for_wrong}, Streams.{GivesFile}, declared.texts.Texts.{Texts}}
 use Rattle.iref_tool.specs.declared.jobs.{LineFault.{LineFault}, LineFault.TheVariants.{Memory}}
 
@@ -15,22 +15,26 @@ abbrev pub number_after : ℕ → List (Option Text) → ℕ
 number_after number [] = number
 number_after number (line ∷ lines) = number_after (next_number number) lines
 
--- this stands among the answers for the line: what the job makes of it, or what stands there for a wrong one, and then not all
--- went well. The job does not see a line for which memory was refused
-abbrev pub DoesLine : {J : Type 0} → (J → Text → Outcome) → (J → Option Text → J → Type 0) → (Text → LineFault → Option Text) → Type 0 → J → Option Text → Option Text → J → Type 0
-DoesLine outcome goes_on for_wrong well old None text new = (well → ⊥) × (new ≡ old) × (text ≡ for_wrong [] Memory)
-DoesLine outcome goes_on for_wrong well old (Some line) text new =
-    ((answer : Text) × (outcome old line ≡ Written answer) × (text ≡ Some answer) × goes_on old (Some line) new)
-    ⊎ ((fault : LineFault) × IsFaultOf (outcome old line) fault × (text ≡ for_wrong line fault) × (well → ⊥) × goes_on old None new)
+-- something was wrong: the status after it is the worse of that before and `Wrong`
+abbrev pub TurnsWrong : Status → Status → Type 0
+TurnsWrong before after = number_of after ≡ max (number_of before) (number_of Wrong)
+
+-- This stands among the answers for the line: what the job makes of it, and the status stays; or what stands there for a wrong
+-- line. The job does not see a line for which memory was refused.
+abbrev pub DoesLine : {J : Type 0} → (J → Text → Outcome) → (J → Option Text → J → Type 0) → (Text → LineFault → Option Text) → J → Status → Option Text → Option Text → J → Status → Type 0
+DoesLine outcome goes_on for_wrong old before None text new after = (new ≡ old) × (text ≡ for_wrong [] Memory) × TurnsWrong before after
+DoesLine outcome goes_on for_wrong old before (Some line) text new after =
+    ((answer : Text) × (outcome old line ≡ Written answer) × (text ≡ Some answer) × goes_on old (Some line) new × (after ≡ before))
+    ⊎ ((fault : LineFault) × IsFaultOf (outcome old line) fault × (text ≡ for_wrong line fault) × goes_on old None new × TurnsWrong before after)
 
 -- the same of each of the lines, one after the other, of which the first has the next number
-abbrev pub DoesLines : {J : Type 0} → (J → Text → Outcome) → (J → Option Text → J → Type 0) → (ℕ → Text → LineFault → Option Text) → Type 0 → ℕ → J → List (Option Text) → List (Option Text) → J → Type 0
-DoesLines outcome goes_on for_wrong well number old [] [] new = new ≡ old
-DoesLines outcome goes_on for_wrong well number old [] (text ∷ texts) new = ⊥
-DoesLines outcome goes_on for_wrong well number old (line ∷ lines) [] new = ⊥
-DoesLines outcome goes_on for_wrong well number old (line ∷ lines) (text ∷ texts) new =
-    (mid : _) × DoesLine outcome goes_on (for_wrong (next_number number)) well old line text mid
-    × DoesLines outcome goes_on for_wrong well (next_number number) mid lines texts new
+abbrev pub DoesLines : {J : Type 0} → (J → Text → Outcome) → (J → Option Text → J → Type 0) → (ℕ → Text → LineFault → Option Text) → ℕ → J → Status → List (Option Text) → List (Option Text) → J → Status → Type 0
+DoesLines outcome goes_on for_wrong number old before [] [] new after = (new ≡ old) × (after ≡ before)
+DoesLines outcome goes_on for_wrong number old before [] (text ∷ texts) new after = ⊥
+DoesLines outcome goes_on for_wrong number old before (line ∷ lines) [] new after = ⊥
+DoesLines outcome goes_on for_wrong number old before (line ∷ lines) (text ∷ texts) new after =
+    (mid : _) × (between : Status) × DoesLine outcome goes_on (for_wrong (next_number number)) old before line text mid between
+    × DoesLines outcome goes_on for_wrong (next_number number) mid between lines texts new after
 
 -- the texts one after the other, if each is known
 abbrev pub all_text : List (Option Text) → Option Text
@@ -44,8 +48,7 @@ StaysAt old new = (new.file ≡ old.file) × (new.number ≡ old.number) × (new
 -- the job was done with lines of a file: what stands among the answers for each was gathered or written, where it is known
 pub record DoesJob {J W E : Type 0} (outcome : J → Text → Outcome) (goes_on : J → Option Text → J → Type 0) (contents : W → Option Text) (old : Texts J W E) (lines : List (Option Text)) (new : Texts J W E) : Type 0 where
   pub texts : List (Option Text)
-  pub does : DoesLines outcome goes_on (text_for_wrong old.reports old.file.now) (new.status ≡ Well) old.number old.job lines texts new.job
-  pub stays_well : new.status ≡ Well → old.status ≡ Well
+  pub does : DoesLines outcome goes_on (text_for_wrong old.reports old.file.now) old.number old.job old.status lines texts new.job new.status
   pub gains : IfSome (all_text texts) (λ text. Gains text (contents (inner_of old.out)) (contents (inner_of new.out)) old.answers.items new.answers.items)
   pub file : new.file ≡ old.file
   pub numbers : new.number ≡ number_after old.number lines
@@ -58,3 +61,9 @@ DoesFiles given [] (status ∷ statuses) old new = ⊥
 DoesFiles given (file ∷ files) [] old new = ⊥
 DoesFiles given (file ∷ files) (status ∷ statuses) old new =
     (mid : _) × GivesFile given status (record old { file = file; number = 0 }) mid × DoesFiles given files statuses mid new
+
+-- the job was done with the lines of all these files, and this is the worst of their statuses
+abbrev pub DoesAll : {J W E : Type 0} → (J → Text → Outcome) → (J → Option Text → J → Type 0) → (W → Option Text) → List (Bor Text) → Status → Texts J W E → Texts J W E → Type 0
+DoesAll outcome goes_on contents files status old new =
+    (statuses : List Status) × DoesFiles (λ s lines t. DoesJob outcome goes_on contents s lines t) files statuses old new
+    × (number_of status ≡ fold max 0 (map number_of statuses))

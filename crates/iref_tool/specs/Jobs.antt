@@ -59,10 +59,14 @@ abbrev pub SeesMore : Unique → Option Text → Unique → Type 0
 SeesMore old None new = (r : ReferenceValue) → has_seen new r ≡ has_seen old r
 SeesMore old (Some line) new = (r : ReferenceValue) → has_seen new r ≡ (are_alike (read_reference line) r || has_seen old r)
 
+-- the lines gathered, each with its LF
+abbrev pub gathered : Sort → Text
+gathered sort = sort.text.items
+
 -- the lines gathered before are the same, and the last one if there is one
 abbrev pub Gathers : Sort → Option Text → Sort → Type 0
-Gathers old None new = new.text.items ≡ old.text.items
-Gathers old (Some line) new = new.text.items ≡ old.text.items ++ with_newline line
+Gathers old None new = gathered new ≡ gathered old
+Gathers old (Some line) new = gathered new ≡ gathered old ++ with_newline line
 
 -- the answer, if there is one
 abbrev pub or_unreached : (ReferenceValue → Text) → Option ReferenceValue → Outcome
@@ -71,4 +75,4 @@ or_unreached write (Some r) = Written (write r)
 
 -- the lines gathered that are IRI references
 abbrev pub lines_in : Sort → List Text
-lines_in sort = filter (λ line. is_none (fault_of_reference iri_chars line)) (ended_lines sort.text.items)
+lines_in sort = filter (λ line. is_none (fault_of_reference iri_chars line)) (ended_lines (gathered sort))

@@ -3,7 +3,7 @@ use Rattle.std.specs.Prelude.{◌≡◌, List, [], ◌∷◌, ◌++◌, Option, 
 use Rattle.std.specs.{Io.KnownBytes.{Consumes, IsAtEnd}, List.{AllZip}}
 use Rattle.iref.specs.Rules.{Text}
 use Rattle.iref_batch.specs.{Gathering.{Holds, SeenAs}, Lines.{lines_of}, Runs.{ended_lines}, declared.lines.Begun.{Begun}}
-use Rattle.iref_batch.specs.declared.status.{Status.{Status}, Status.TheVariants.{Well}}
+use Rattle.iref_batch.specs.declared.status.{Status.{Status}, Status.TheVariants.{Well, Wrong, Misused}}
 use Rattle.iref_tool.specs.declared.input.{Failure.{Failure}, Failure.TheVariants.{Read, Write}}
 
 -- the line was given, or memory was refused for it
@@ -57,4 +57,11 @@ OnReadError (Err (Read _)) P = P
 -- of a file some text was read, and all of its lines were given; where it could not be read to its end, those that end before
 abbrev pub GivesFile : {T : Type 0} → (T → List (Option Text) → T → Type 0) → Status → T → T → Type 0
 GivesFile given Well old new = (text : Text) × GivesLines given (lines_of text) old new
-GivesFile given _ old new = (text : Text) × GivesLines given (ended_lines text) old new
+GivesFile given Wrong old new = ⊥
+GivesFile given Misused old new = (text : Text) × GivesLines given (ended_lines text) old new
+
+-- the status of a file, by how reading it ended; none where a write has failed
+abbrev pub status_read : Result (Unit {0}) Failure → Option Status
+status_read (Ok _) = Some Well
+status_read (Err Write) = None
+status_read (Err (Read _)) = Some Misused

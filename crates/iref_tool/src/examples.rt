@@ -151,7 +151,7 @@ fn fault(alloc: Global, reference: &[u8]) -> Result<String, Memory> {
     }
 }
 
-// The answer to a text, whose verb alone is followed by an empty field; `get` alone is no command.
+// The answer to a line of UTF-8. A verb alone is taken as one with an empty field, but for `get`.
 fn answer_text(alloc: Global, tables: &mut Tables, line: &str) -> Result<String, Memory>
     ensures { OnErr result (HaveSame tables.old tables.new) }
 {

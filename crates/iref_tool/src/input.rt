@@ -28,7 +28,7 @@ pub trait TakesLines {
     fn refuse(&mut self) -> Result<(), StreamError>
         ensures { OnOk result (given self.old (None ∷ []) self.new) };
 
-    /// Writes what is gathered, before more is read. So many bytes were read since the last time.
+    /// Writes what is gathered, before more is read. `bytes` were read since the last call.
     fn pause(&mut self, bytes: usize) -> Result<(), StreamError>
         ensures no_line { OnOk result (given self.old [] self.new) }
         ensures settled { OnOk result (is_settled self.new) };

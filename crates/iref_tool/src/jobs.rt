@@ -10,7 +10,8 @@ ghost use Rattle.iref.specs.SortPrefix.{sort_prefix};
 ghost use Rattle.iref_batch.specs.{Gathering.{Extends}, Runs.{with_newline}};
 ghost use Rattle.iref_reference.specs.References.{key_of_reference, reference_text, reference_value};
 ghost use Rattle.iref_tool.specs.Jobs.{Outcome, Written, EndsBy, SeesMore, answer_line, fault_in, is_below};
-ghost use Rattle.iref_tool.specs.Jobs.{Gathers, has_seen, lines_in, of_iri, of_reference, or_unreached, unless_fault};
+ghost use Rattle.iref_tool.specs.Jobs.{Gathers, gathered, has_seen, lines_in};
+ghost use Rattle.iref_tool.specs.Jobs.{of_iri, of_reference, or_unreached, unless_fault};
 ghost use Rattle.iref_tool.specs.Words.{ReadsText};
 ghost use Rattle.iref_tool.specs.declared.jobs.LineFault.TheVariants as line_fault;
 
@@ -53,7 +54,7 @@ pub trait Job {
     /// What it makes of a line.
     ghost outcome: { Self → Text → Outcome };
 
-    /// How it goes on after a line that it has answered, and after another.
+    /// How it goes on after a line that it has answered, and after one that it has not.
     ghost goes_on: { Self → Option Text → Self → Type 0 } = { λ old _ new. new ≡ old };
 
     /// Adds what is written for the line.
@@ -298,7 +299,7 @@ pub struct Sort {
 impl Sort {
     /// Before the first line.
     pub fn new(alloc: Global) -> Self
-        ensures { lines_in result ≡ [] }
+        ensures { gathered result ≡ [] }
     {
         let text = Vec::new(alloc);
         Sort { text }

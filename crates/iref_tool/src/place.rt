@@ -32,5 +32,10 @@ impl fmt::Display for Why {
 /// How many columns of a terminal the characters before a byte of a word take: of `日b` two before
 /// the byte 3. A control character takes one, as what is printed in its place does.
 pub fn columns_before(word: &str, at: usize) -> usize {
-    word.get(..at).unwrap_or(word).width()
+    let front = word.get(..at).unwrap_or(word);
+    let mut columns = front.chars().filter(|c| c.is_control()).count();
+    for part in front.split(|c: char| c.is_control()) {
+        columns = columns.saturating_add(part.width());
+    }
+    columns
 }

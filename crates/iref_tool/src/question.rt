@@ -80,7 +80,7 @@ fn normal<'a>(alloc: Global, word: &'a str) -> Result<String, Refusal<'a>>
     Ok(path.normalized(alloc)?.into_string())
 }
 
-// Whether two references mean the same: `yes` or `no`.
+// Whether two references are equal by `==`: `yes` or `no`.
 fn equal<'m, 'w: 'm>(alloc: Global, matches: &'m ArgMatches<'w>) -> Result<String, Refusal<'m>>
     ensures { EndsAs (equal_reply (word (found_of matches.now) (codes "FIRST"))
         (word (found_of matches.now) (codes "SECOND"))) result }
@@ -169,8 +169,9 @@ fn answer_of_two<'m, 'w: 'm>(
     }
 }
 
-/// The answer, of one line but for the components; else which word has none, and why. None where
-/// the command has no such answer, or `resolve` and `relativize` other words than two.
+/// The answer of a command to its words, one line but for `parts`; an error says which word is wrong,
+/// and why. None for a command that works on lines, and where `resolve` or `relativize` has other
+/// words than two.
 pub fn answer<'m, 'w: 'm>(
     alloc: Global,
     name: &str,

@@ -12,7 +12,7 @@ use std::fmt;
 /// What is wrong with a word.
 #[derive(Clone, Copy)]
 pub enum Reason {
-    /// It, or what follows its first bytes of this number, is not of this kind.
+    /// The word, from the byte `start` on, is no text of this kind.
     Text {
         kind: &'static str,
         start: usize,

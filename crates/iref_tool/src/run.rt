@@ -1,8 +1,10 @@
 //! What the words ask for, done.
-ghost use Rattle.std.specs.Prelude.{◌≡◌, List, IfSome, OnOk, fold, map, max};
-ghost use Rattle.iref.specs.Rules.{Text};
-ghost use Rattle.iref_batch.specs.{Lines.{lines_of}, Runs.{ended_lines}, Statuses.{number_of}};
-ghost use Rattle.iref_tool.specs.{JobRuns.{DoesFiles, DoesJob}, Streams.{GivesFile, GivesLines, OnReadError}};
+ghost use Rattle.std.specs.Prelude.{◌≡◌, ◌≢◌, IfOk, IfSome, OnOk, map};
+ghost use Rattle.std.specs.{Io.KnownBytes.{Appends}, IoError.{error_kind}};
+ghost use Rattle.iref.specs.{References.{reference_text}, Rules.{Text}};
+ghost use Rattle.iref_batch.specs.{Lines.{lines_of}, Runs.{ended_lines, with_newlines}, StdStreams.{inner_of}};
+ghost use Rattle.iref_tool.specs.JobRuns.{DoesAll, TurnsWrong};
+ghost use Rattle.iref_tool.specs.Streams.{GivesFile, GivesLines, OnReadError, status_read};
 
 use crate::examples::Tables;
 use crate::input::{Failure, TakesLines, each_line};
@@ -25,12 +27,15 @@ use std::io::{self, BufWriter, ErrorKind, IsTerminal, Write};
 use std::rt::{Stderr, Stdout};
 
 /// The status where an output has failed. Nothing is said where nobody reads it any more.
-pub fn output_failed(rt: &HostRuntime, error: &io::Error, status: Status) -> Status {
+pub fn output_failed(rt: &HostRuntime, error: &io::Error, status: Status) -> Status
+    ensures unread { error_kind error.now ≡ ErrorKind.BrokenPipe → result ≡ status }
+    ensures failed { error_kind error.now ≢ ErrorKind.BrokenPipe → TurnsWrong status result }
+{
     if error.kind() == ErrorKind::BrokenPipe {
         return status;
     }
     let _ = eprintln!(rt; "iref: standard output: {error}");
-    status.max(Status::Wrong)
+    status.worse(Status::Wrong)
 }
 
 // The status of a run, whose output may have failed.
@@ -41,7 +46,7 @@ fn ended<W: Write>(rt: &HostRuntime, out: &FromStd<W>, status: Status) -> Status
     }
 }
 
-// Prints what is wrong with a word.
+// Prints why there is no answer.
 fn refused(rt: &HostRuntime, refusal: &Refusal<'_>) -> Status {
     let _ = rt.eprint(refusal);
     refusal.status()
@@ -50,9 +55,7 @@ fn refused(rt: &HostRuntime, refusal: &Refusal<'_>) -> Status {
 // Prints one answer.
 fn print(rt: &HostRuntime, answer: &str) -> Status {
     let mut out = FromStd::new(rt.stdout());
-    if out.put(answer.as_bytes()).is_ok() {
-        let _ = out.put(b"\n");
-    }
+    let _ = out.print(&answer);
     ended(rt, &out, Status::Well)
 }
 
@@ -96,12 +99,10 @@ fn each_line_of<T: TakesLines>(rt: &HostRuntime, file: &str, to: &mut T) -> Resu
     each_line(rt.alloc(), &mut fs::open(rt, file)?, to)
 }
 
-// Gives each line of a file away, and says why it cannot be read.
-fn read_file<T: TakesLines>(rt: &HostRuntime, file: &str, to: &mut T) -> Option<Status>
-    ensures { IfSome result (λ status. GivesFile T.given status to.old to.new) }
+// The status of a file, by how reading it ended. Says why it cannot be read.
+fn status_of_read(rt: &HostRuntime, file: &str, read: Result<(), Failure>) -> Option<Status>
+    ensures { result ≡ status_read read }
 {
-    let read = each_line_of(rt, file, to);
-    to.make_room();
     match read {
         Ok(()) => Some(Status::Well),
         Err(Failure::Write) => None,
@@ -112,30 +113,34 @@ fn read_file<T: TakesLines>(rt: &HostRuntime, file: &str, to: &mut T) -> Option<
     }
 }
 
-// The worse of two.
-fn worse(status: Status, other: Status) -> Status
-    ensures { number_of result ≡ max (number_of status) (number_of other) }
+// Gives each line of a file away: the status of the file, unless a write failed.
+fn read_file<T: TakesLines>(rt: &HostRuntime, file: &str, to: &mut T) -> Option<Status>
+    ensures { IfSome result (λ status. GivesFile T.given status to.old to.new) }
 {
-    status.max(other)
+    let read = each_line_of(rt, file, to);
+    to.make_room();
+    status_of_read(rt, file, read)
 }
 
-// Does a job with each line of the files: the status, unless a write failed.
+// Does a job with each line of the files: the worst status of these. Where a write has failed, an
+// `Err` has that of the files before.
 fn each_text<'a, J: Job, W: Write, E: Write>(
     rt: &HostRuntime,
     files: &[&'a str],
     texts: &mut Texts<'a, J, W, E>,
-) -> Option<Status>
-    ensures { IfSome result (λ status. (statuses : List Status)
-        × DoesFiles (λ old lines new. DoesJob J.outcome J.goes_on W.contents old lines new)
-        files.now statuses texts.old texts.new
-        × (number_of status ≡ fold max 0 (map number_of statuses))) }
+) -> Result<Status, Status>
+    ensures { IfOk result (λ status.
+        DoesAll J.outcome J.goes_on W.contents files.now status texts.old texts.new) }
 {
     let mut status = Status::Well;
     for file in files {
         texts.begin(*file);
-        status = worse(status, read_file(rt, *file, texts)?);
+        match read_file(rt, *file, texts) {
+            Some(of_file) => status = status.worse(of_file),
+            None => return Err(status),
+        }
     }
-    Some(status)
+    Ok(status)
 }
 
 // A job, before the files are read.
@@ -155,8 +160,8 @@ fn finish<'a, J: Job + Drop>(
     files: &[&'a str],
 ) -> Status {
     let mut texts = texts;
-    let status = each_text(rt, files, &mut texts).unwrap_or(Status::Well);
-    ended(rt, &texts.out, status.max(texts.status))
+    let (Ok(status) | Err(status)) = each_text(rt, files, &mut texts);
+    ended(rt, &texts.out, status.worse(texts.status))
 }
 
 // Does a job with each line of the files.
@@ -172,7 +177,10 @@ fn check(rt: &HostRuntime, job: Check, files: &[&str]) -> Status {
 }
 
 // Writes the lines.
-fn put_lines<W: Write>(lines: &[IriRef<'_>], out: &mut FromStd<W>) -> Result<(), StreamError> {
+fn put_lines<W: Write>(lines: &[IriRef<'_>], out: &mut FromStd<W>) -> Result<(), StreamError>
+    ensures { OnOk result (Appends (W.contents (inner_of out.old)) (W.contents (inner_of out.new))
+        (with_newlines (map reference_text lines.now))) }
+{
     for line in lines {
         out.put(line.as_bytes())?;
         out.put(b"\n")?;
@@ -183,12 +191,12 @@ fn put_lines<W: Write>(lines: &[IriRef<'_>], out: &mut FromStd<W>) -> Result<(),
 // Sorts the lines of the files.
 fn sort(rt: &HostRuntime, files: &[&str]) -> Status {
     let mut texts = texts_of(rt, Sort::new(rt.alloc()), files);
-    let status = each_text(rt, files, &mut texts).unwrap_or(Status::Well);
-    let status = status.max(texts.status);
+    let (Ok(status) | Err(status)) = each_text(rt, files, &mut texts);
+    let status = status.worse(texts.status);
     let writer = BufWriter::with_capacity(rt.alloc(), GATHERED, rt.stdout());
     let (Ok(sorted), Ok(writer)) = (texts.job.sorted(), writer) else {
         refused(rt, &Refusal::Memory);
-        return status.max(Status::Wrong);
+        return status.worse(Status::Wrong);
     };
     let mut out = FromStd::new(writer);
     let _ = put_lines(sorted.as_slice(), &mut out);
@@ -209,7 +217,7 @@ fn answer_lines(rt: &HostRuntime, files: &[&str]) -> Status {
     let mut status = Status::Well;
     for file in files {
         match read_file(rt, *file, &mut lines) {
-            Some(of_file) => status = status.max(of_file),
+            Some(of_file) => status = status.worse(of_file),
             None => break,
         }
     }

@@ -1,7 +1,8 @@
 //! A job done with each line of inputs: what is answered, and what is said of wrong lines.
-ghost use Rattle.std.specs.Prelude.{◌≡◌, ◌≢◌, [], ◌∷◌, ◌++◌, false, Some, IfSome, OnErr, OnOk};
+ghost use Rattle.std.specs.Prelude.{◌≡◌, [], ◌∷◌, ◌++◌, false, Some, IfSome, OnErr, OnOk};
 ghost use Rattle.iref_batch.specs.{Gathering.{Gains, Writes}, Runs.{with_newline}, StdStreams.{inner_of}};
-ghost use Rattle.iref_tool.specs.{JobRuns.{DoesJob, StaysAt}, Notes.{fault_note, note_text, text_for_wrong}};
+ghost use Rattle.iref_tool.specs.JobRuns.{DoesJob, StaysAt, TurnsWrong};
+ghost use Rattle.iref_tool.specs.Notes.{fault_note, note_text, text_for_wrong};
 ghost use Rattle.iref_tool.specs.JobRunLaws.{DoesJob-both, DoesJob-nothing};
 
 use crate::input::TakesLines;
@@ -127,13 +128,13 @@ impl<'a, J: Job, W: Write, E: Write> Texts<'a, J, W, E> {
     fn note(&mut self, line: &[u8], fault: LineFault) -> Result<(), StreamError>
         ensures job { self.new.job ≡ self.old.job }
         ensures place { StaysAt self.old self.new }
-        ensures wrong { self.new.status ≢ Status.Well }
+        ensures wrong { TurnsWrong self.old.status self.new.status }
         ensures said { OnOk result (IfSome (text_for_wrong self.old.reports self.old.file.now
             self.old.number line.now fault) (λ text. Gains text
             (W.contents (inner_of self.old.out)) (W.contents (inner_of self.new.out))
             self.old.answers.items self.new.answers.items)) }
     {
-        self.status = self.status.max(Status::Wrong);
+        self.status = self.status.worse(Status::Wrong);
         let note = Note {
             file: self.file,
             number: self.number,
@@ -143,10 +144,12 @@ impl<'a, J: Job, W: Write, E: Write> Texts<'a, J, W, E> {
         if self.reports {
             if push_note(&mut self.made, &mut self.answers, &note).is_err() {
                 self.flush()?;
+                self.progress.hide();
                 self.out.print(&note)?;
             }
         } else if push_note(&mut self.made, &mut self.notes, &note).is_err() {
             self.flush()?;
+            self.progress.hide();
             let _ = writeln!(self.err, "{note}");
         }
         Ok(())

@@ -23,17 +23,20 @@ Examples:
   iref resolve ../g http://a/b/c/d           # http://a/b/g
   iref edit http://h/a push=b query=x        # http://h/a/b?x
   iref check urls.txt                        # urls.txt:3:9: invalid host: ' '
-  iref canonical --keep urls.txt | sort -u -k 1,1
+  iref canonical --keep urls.txt | LC_ALL=C sort -u -t \"$(printf '\\t')\" -k 1,1
   iref below http://h/docs urls.txt
 
-The status is 0; 1 where a text or a line is wrong, memory runs out or a write fails; 2 where the
-words are wrong or a file cannot be read.";
+The status is 0; 1 where a text or, but in lines, a line is wrong, memory runs out or a write
+fails; 2 where the words are wrong or a file cannot be read.";
 
 // The commands, in the order of the help, and what each does.
 const COMMANDS: &[(&str, &str)] = &[
     ("parts", "Print the components of a URI"),
     ("normal", "Remove the dot segments of a path"),
-    ("equal", "Tell whether two URIs mean the same: yes or no"),
+    (
+        "equal",
+        "Tell whether two URIs are equal by their keys: yes or no",
+    ),
     (
         "relative",
         "Print a reference that leads from a base to a target",
@@ -88,7 +91,7 @@ fn help_of(id: &str) -> &'static str {
         "EDIT" => EDITS,
         "LABEL=IRI" => "A label, and the IRI that it stands for",
         "TEXT" => "A label, a colon and the rest, such as ex:a",
-        "PREFIX" => "A URI, or a relative reference",
+        "PREFIX" => "A URI such as http://h/docs, with no / at its end; http://h/ is all of a host",
         "FILE" => "A text on each line; - is standard input",
         "base" => "Take each line of the files against this base",
         "keep" => "Write the line behind its answer, with a TAB between",

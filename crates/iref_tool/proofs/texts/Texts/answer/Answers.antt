@@ -14,5 +14,5 @@ returns-in-Err g c =
     let back : c.truncate.new.self.items ≡ old.answers.items = grind (arith, common_steps, end.1.1) in
     let now = record old { job = c.answer.new.self; answers = c.truncate.new.self; number = c.saturating_add-self.result } in
     on_ok_weaker c.note.result
-    (λ said. line_wrong g.W.Write.contents c.args.line.now c.in-Err.fault old now c.note.new.self refl c.saturating_add-self.ensures refl refl back said g.J.Job.outcome g.J.Job.goes_on c.note.ensures.place c.note.ensures.wrong end.0 (rw c.note.ensures.job c.in-Err.ensures.next))
+    (λ said. line_wrong g.W.Write.contents c.args.line.now c.in-Err.fault old now c.note.new.self refl refl c.saturating_add-self.ensures refl refl back said g.J.Job.outcome g.J.Job.goes_on c.note.ensures.place c.note.ensures.wrong end.0 (rw c.note.ensures.job c.in-Err.ensures.next))
     c.note.ensures.said

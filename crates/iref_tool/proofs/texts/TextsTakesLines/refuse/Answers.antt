@@ -8,5 +8,5 @@ returns g c =
     let old = c.args.self.now in
     let now = record old { number = c.saturating_add-self.result } in
     on_ok_weaker c.note.result
-    (λ said. line_refused g.W.Write.contents [] Memory old now c.note.new.self refl c.saturating_add-self.ensures refl refl refl said g.J.Job.outcome g.J.Job.goes_on c.note.ensures.place c.note.ensures.wrong refl refl c.note.ensures.job)
+    (λ said. line_refused g.W.Write.contents [] Memory old now c.note.new.self refl refl c.saturating_add-self.ensures refl refl refl said g.J.Job.outcome g.J.Job.goes_on c.note.ensures.place c.note.ensures.wrong refl refl c.note.ensures.job)
     c.note.ensures.said
