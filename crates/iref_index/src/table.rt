@@ -76,7 +76,7 @@ impl Table {
             Err((error, left)) => {
                 // What is left is the open file.
                 if left.is_some() && is_refusal(&error) {
-                    remove_log(rt, path)?;
+                    let _ = remove_log(rt, path);
                 }
                 Err(error).context(format_args!("cannot open {path}"))
             }
