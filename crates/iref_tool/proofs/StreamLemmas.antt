@@ -1,18 +1,12 @@
 -- How the lines of an input are given.
 use Rattle.std.proofs.Common.{◌≡◌, ℕ, true, false, List, [], ◌∷◌, ◌++◌, Option, Result, Ok, Err, IfSome, OnOk, take, append-nil, append_assoc}
-use Rattle.std.proofs.KnownBytes.{Consumes-kept, Consumes-nil, Consumes-trans}
-use Rattle.std.specs.{Io.KnownBytes.{Consumes, IsAtEnd, Keeps}, List.{AllZip}}
+use Rattle.std.proofs.{KnownBytes.{Consumes-kept, Consumes-nil, Consumes-trans}, lemmas.Slice.Zip.{all_zipped_more}}
+use Rattle.std.specs.Io.KnownBytes.{Consumes, IsAtEnd, Keeps}
 use Rattle.iref.specs.{Rules.{Text}, Texts.{is_empty}}
 use Rattle.iref_batch.specs.{Gathering.{IsLine, IsNothing}, Lines.{lines_of}, Runs.{ended_lines, with_newline}, declared.{lines.Begun.{Begun}, status.Status.{Status}}}
 use Rattle.iref_batch.proofs.SeenLemmas.{ended_lines_of_seen, lines_of_all_seen, lines_of_seen, seen_line, seen_nothing, seen_part}
 use Rattle.iref_tool.specs.Streams.{IsGiven, GivesAll, GivesBeginning, GivesFile, GivesLine, GivesLines, InInput, OnReadError, ReadsMore, status_read}
 use Rattle.iref_tool.specs.declared.input.{Failure.{Failure}, Failure.TheVariants.{Read, Write}}
-
-IsGiven-push : (lines : List Text) (all : List (Option Text)) (line : Text) (last : Option Text) → AllZip IsGiven lines all → IsGiven line last → AllZip IsGiven (lines ++ line ∷ []) (all ++ last ∷ [])
-IsGiven-push [] [] line last f g = (g, tt)
-IsGiven-push [] (one ∷ all) line last f g = absurd f
-IsGiven-push (l ∷ lines) [] line last f g = absurd f
-IsGiven-push (l ∷ lines) (one ∷ all) line last f g = (f.0, IsGiven-push lines all line last f.1 g)
 
 -- so far some text was read, and its lines were given
 pub record HasRead {T : Type 0} (given : T → List (Option Text) → T → Type 0) (before left : Option Text) (begun : Begun) (first now : T) : Type 0 where
@@ -53,7 +47,7 @@ module _ {T : Type 0} (given : T → List (Option Text) → T → Type 0) where
           ended = r.ended ++ (line ++ tail) ∷ [];
           lines = r.lines ++ g.0 ∷ [];
           seen_as = seen_line seen tail r.ended begun begun_then l n r.seen_as;
-          are_given = IsGiven-push r.ended r.lines (line ++ tail) g.0 r.are_given g.1;
+          are_given = all_zipped_more IsGiven r.ended r.lines (line ++ tail) g.0 r.are_given g.1;
           taken = both first old new r.lines (g.0 ∷ []) r.taken g.2;
         }
 
@@ -71,7 +65,7 @@ module _ {T : Type 0} (given : T → List (Option Text) → T → Type 0) where
         let line = r.seen_as.line in
         let g = f line r.seen_as.kept in record {
           lines = r.lines ++ g.0 ∷ [];
-          are_given = rw (lines_of_all_seen seen r.ended begun r.seen_as some) (IsGiven-push r.ended r.lines line g.0 r.are_given (rw append-nil at g.1));
+          are_given = rw (lines_of_all_seen seen r.ended begun r.seen_as some) (all_zipped_more IsGiven r.ended r.lines line g.0 r.are_given (rw append-nil at g.1));
           taken = rw append-nil at (both first mid new (r.lines ++ g.0 ∷ []) [] (both first old mid r.lines (g.0 ∷ []) r.taken g.2) e);
         }
 

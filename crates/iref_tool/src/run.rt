@@ -246,8 +246,7 @@ fn run_words<'m, 'w: 'm>(
     }
     let keep = Keep(matches.get_flag("keep"));
     let files = files_of(matches);
-    let base = word_of(matches, "base");
-    let status = match (name, matches.get_str("base").is_some()) {
+    let status = match (name, matches.get_str("base")) {
         ("check", _) => {
             let uri = matches.get_flag("uri");
             let absolute = matches.get_flag("absolute");
@@ -255,8 +254,8 @@ fn run_words<'m, 'w: 'm>(
         }
         ("canonical", _) => do_each(rt, Canonical::new(alloc, keep), files),
         ("key", _) => do_each(rt, Key(keep), files),
-        ("resolve", true) => do_each(rt, Resolve(iri("BASE", base)?, keep), files),
-        ("relativize", true) => do_each(rt, Relativize(iri("BASE", base)?, keep), files),
+        ("resolve", Some(base)) => do_each(rt, Resolve(iri("BASE", base)?, keep), files),
+        ("relativize", Some(base)) => do_each(rt, Relativize(iri("BASE", base)?, keep), files),
         ("sort", _) => sort(rt, files),
         ("unique", _) => do_each(rt, Unique::new(alloc), files),
         ("below", _) => {
