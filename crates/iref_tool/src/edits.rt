@@ -75,8 +75,8 @@ impl<'a> Field<'a> {
 
     // The edit of a path in place.
     fn path_edit(&self) -> Result<Edit<'a>, Refusal<'a>>
-        ensures { ReadsWord edit_step (named_edit path_edit_names self.now.word.now self.now.name.now
-            (option_copied self.now.value)) result }
+        ensures { ReadsWord edit_step (named_edit path_edit_names self.now.word.now
+            self.now.name.now (option_copied self.now.value)) result }
     {
         match self.name {
             "lazy-push" => Ok(Edit::LazyPush(self.needed("segment")?)),
