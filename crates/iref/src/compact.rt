@@ -112,7 +112,8 @@ impl Model for Prefixes {
 
     ghost view = { λ p. record { labels = p.rule; entries = table_of p.table.entries } };
 
-    ghost invariant = { λ p. IsPrefixTable (record { labels = p.rule; entries = table_of p.table.entries })
+    ghost invariant = { λ p.
+        IsPrefixTable (record { labels = p.rule; entries = table_of p.table.entries })
         × IsTable p.table };
 }
 

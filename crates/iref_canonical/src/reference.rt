@@ -68,7 +68,8 @@ impl<'a> SpelledReference<'a> {
     /// The text of the reference of these components: the canonical one, or that which is hashed, in
     /// which bytes beyond ASCII stand raw.
     pub fn new(raw: bool, slices: ReferenceSlices<'a>) -> Self
-        ensures text { measured_spelling result ≡ spell (spelled raw (key (value_of slices.entry))) }
+        ensures text { measured_spelling result
+            ≡ spell (spelled raw (key (value_of slices.entry))) }
         ensures measured { IsMeasured result }
     {
         let context = PathContext {

@@ -49,8 +49,10 @@ impl<R: HeldRule, C: CharSet> Reference<'_, R, C> {
     /// fragment, and below `http://h/docs/`, which ends in an empty segment, not `http://h/docs/a`.
     /// Out of memory, it returns `Memory`.
     pub fn sort_range(&self, alloc: Global) -> Result<Range<SortKey>, Memory>
-        ensures start { IfOk result (λ range. range.start ≡ sort_prefix (key_of_reference self.now)) }
-        ensures end { IfOk result (λ range. range.end ≡ sort_prefix_end (key_of_reference self.now)) }
+        ensures start { IfOk result (λ range. range.start
+            ≡ sort_prefix (key_of_reference self.now)) }
+        ensures end { IfOk result (λ range. range.end
+            ≡ sort_prefix_end (key_of_reference self.now)) }
         ensures forward { IfOk result (λ range. IsLeBy text_order range.start range.end) }
     {
         let text = self.as_str();

@@ -62,7 +62,8 @@ impl Shared {
     fn least(&self, iri: usize) -> Option<usize>
         requires { iri + 1 < 2 ^ 64 }
         ensures { MatchOption result ((p : ℕ) → holds self.now iri p ≡ false)
-            (λ p. (holds self.now iri p ≡ true) × ((q : ℕ) → q < p → holds self.now iri q ≡ false)) }
+            (λ p. (holds self.now iri p ≡ true)
+            × ((q : ℕ) → q < p → holds self.now iri q ≡ false)) }
     {
         let pair = self.pairs.range((iri, 0)..(iri + 1, 0)).next()?;
         Some(pair.1)
