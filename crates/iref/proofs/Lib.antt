@@ -11,9 +11,11 @@ pub mod PrefixBitLemmas
 pub mod PrefixBookLemmas
 pub mod PrefixChangeLemmas
 pub mod PrefixFindLemmas
+pub mod PrefixGrownLemmas
 pub mod PrefixInsertLemmas
 pub mod PrefixLabelLemmas
 pub mod PrefixLemmas
+pub mod PrefixNewTextLemmas
 pub mod PrefixPlaceLemmas
 mod PrefixRows
 pub mod PrefixSharedLemmas

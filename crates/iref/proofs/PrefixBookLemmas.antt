@@ -11,7 +11,7 @@ use Rattle.iref.specs.{declared.compact.entry.Lead.{Lead}, declared.compact.entr
 use Rattle.iref.specs.{declared.compact.shared.Shared.{Shared}, declared.compact.table.Added.{Added}}
 use Rattle.iref.specs.{declared.compact.table.Held.{Held}, declared.compact.tree.Tree.{Tree}}
 use Rattle.iref.proofs.PrefixChangeLemmas.{keys_more, by_set, inside_put, inside_taken, none_stands, IsChanged, Placed, placed_moved, placed_put, placed_taken, places_kept, spare_place, changed_set, within_after, once_after, led_after, lone_lead, lead_gone, first_only}
-use Rattle.iref.proofs.{PrefixFindLemmas.{entry_key, rows_all}, PrefixInsertLemmas.{first_again, text_old}}
+use Rattle.iref.proofs.{PrefixFindLemmas.{entry_key, rows_all}, PrefixNewTextLemmas.{first_again, text_old}}
 use Rattle.iref.proofs.PrefixPlaceLemmas.{entries_put, entries_spared, entries_cleared, entries_changed, length_cleared, length_changed, none_labelled, not_taken, taken_at}
 
 -- the same lists

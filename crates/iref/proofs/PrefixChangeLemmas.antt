@@ -11,7 +11,7 @@ use Rattle.iref.specs.PrefixPlaces.{first_of, holds, is_at, lead_there, lead_to,
 use Rattle.iref.specs.{declared.compact.entry.Key.{Key}, declared.compact.entry.Key.TheVariants.{Label, Iri}}
 use Rattle.iref.specs.{declared.compact.entry.Lead.{Lead}, declared.compact.shared.Shared.{Shared}}
 use Rattle.iref.specs.declared.compact.tree.Tree.{Tree}
-use Rattle.iref.proofs.{PrefixInsertLemmas.{text_old}, PrefixPlaceLemmas.{entries_of_more, entries_spared}}
+use Rattle.iref.proofs.{PrefixNewTextLemmas.{text_old}, PrefixPlaceLemmas.{entries_of_more, entries_spared}}
 use Rattle.iref.proofs.PrefixSharedLemmas.{true_lt}
 
 -- where the first entry of a text leads to

@@ -2,7 +2,7 @@ use Rattle.std.proofs.Common.{arith, ◌≤◌, [], ◌∷◌, ◌++◌, length,
 use Rattle.std.proofs.lemmas.List.Sums.{common_prefix_len-le}
 use Rattle.iref.specs.PrefixTree.{all_of, keys_of, places_of, AreBytes, IsFirstOf}
 use Rattle.iref.proofs.{PrefixFindLemmas.{rows_texts}, PrefixBitLemmas.{common_bits, symbols_differ, same_whole}}
-use Rattle.iref.proofs.PrefixInsertLemmas.{lowered, added, tree_again, first_again, first_of_all, new_absent}
+use Rattle.iref.proofs.{PrefixGrownLemmas.{lowered, added, tree_again}, PrefixNewTextLemmas.{first_again, first_of_all, new_absent}}
 use Rattle.iref.proofs.compact.tree.Tree.add.Goals.{else-at-text-via-then-at-text+else-at-near, else-at-text-via-else-at-text, then-at-near-2, else-at-near-2}
 use Rattle.iref.proofs.compact.tree.Tree.add.Goals as goal
 

@@ -1,7 +1,7 @@
 use Rattle.std.proofs.{Common.{arith, rules, ◌≡◌, length, get_or, refl, inl, inr, ap, subst, ◌∙◌, Some, None}, Math.ListN.{set}}
 use Rattle.std.specs.Vec.{with_item}
 use Rattle.iref.specs.{PrefixTree.{with_child, IsWay}, declared.compact.tree.Child.TheVariants.{Inner}}
-use Rattle.iref.proofs.PrefixInsertLemmas.{made, grown_above, grown_below, tree_grown}
+use Rattle.iref.proofs.{PrefixGrownLemmas.{made, grown_above, grown_below}, PrefixInsertLemmas.{tree_grown}}
 use Rattle.iref.proofs.compact.tree.Tree.put.Goals.{then-is_in, else-is_in}
 use Rattle.iref.proofs.compact.tree.Tree.put.Goals as goal
 

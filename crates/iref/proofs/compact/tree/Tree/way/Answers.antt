@@ -1,5 +1,5 @@
 use Rattle.std.proofs.{Common.{sym, ◌∙◌}, lemmas.Bool.{ltb-true, ltb-false}}
-use Rattle.iref.proofs.PrefixInsertLemmas.{way_from_root, way_down, behind_node, behind_leaf}
+use Rattle.iref.proofs.PrefixNewTextLemmas.{way_from_root, way_down, behind_node, behind_leaf}
 use Rattle.iref.proofs.compact.tree.Tree.way.Goals as goal
 
 pub loop-child-init : goal.loop-child-init
