@@ -2,8 +2,8 @@
  * URIs and IRIs, as RFC 3986 and RFC 3987 say, for C.
  *
  * Texts. A text is a pointer to its first byte and its length in bytes. It need not end in a byte of value 0, and any
- * bytes may stand in it. Bytes that are not UTF-8 are in no rule, so a call refuses them. Nothing is kept between calls, so
- * they may run in several threads at once.
+ * bytes may stand in it. Bytes that are not UTF-8 are in no rule, so each call but iref_fault refuses them. Nothing is kept
+ * between calls, so they may run in several threads at once.
  *
  * Families. Each URI is an IRI, and each reference of URIs one of IRIs, so the calls on IRIs serve for URIs: of URIs they
  * answer URIs. iref_parse_uri and iref_parse_uri_reference say whether a text is of the narrower family.
@@ -11,9 +11,10 @@
  * What the caller owes. No pointer is NULL, not even one of length 0. What is passed as a text holds that many bytes that
  * can be read, and does not change during the call. What is passed as a buffer holds that many bytes that can be read and
  * written, and the memory for each result is aligned as its type is. No buffer and no such memory overlaps anything else
- * that is passed. malloc, realloc and free are of one allocator, and iref_normalize_path, iref_to_uri, iref_canonical,
- * iref_sort_key and iref_sort_range, which alone take memory, are not called from a signal handler, nor in the forked child
- * of a process with threads. Nothing checks any of this.
+ * that is passed. malloc, realloc and free are of one allocator, and malloc and realloc align a block to each power of two
+ * up to 16 that divides its size. iref_normalize_path, iref_to_uri, iref_canonical, iref_sort_key and iref_sort_range,
+ * which alone take memory, are not called from a signal handler, nor in the forked child of a process with threads. Nothing
+ * checks any of this.
  *
  * Results. A call answers a status, one of those below. Where it is not IREF_OK, nothing is written, except *needed at
  * IREF_SHORT.
@@ -56,8 +57,8 @@ struct iref_ranges {
     struct iref_range scheme;    /* section 3.1 */
     struct iref_range authority; /* section 3.2: user info, host and port, with `@` and `:` between them */
     struct iref_range user_info; /* section 3.2.1 */
-    struct iref_range host;      /* section 3.2.2: there where the authority is, and may be empty */
-    struct iref_range port;      /* section 3.2.3: its digits, and may be empty */
+    struct iref_range host;      /* section 3.2.2: there where the authority is; an IP literal has its `[` and `]` */
+    struct iref_range port;      /* section 3.2.3: its digits, of which there may be none or any number */
     struct iref_range path;      /* section 3.3: always there, and may be empty */
     struct iref_range query;     /* section 3.4 */
     struct iref_range fragment;  /* section 3.5 */
@@ -72,7 +73,7 @@ uint32_t iref_parse_uri(const char *text, size_t length, struct iref_ranges *ran
 /* A reference of URIs: a URI, or one that is relative to a URI (RFC 3986 section 4.1). */
 uint32_t iref_parse_uri_reference(const char *text, size_t length, struct iref_ranges *ranges);
 
-/* An IRI: a URI with characters beyond ASCII (RFC 3987 section 2.2). */
+/* An IRI: as a URI, but characters beyond ASCII may stand in it (RFC 3987 section 2.2). */
 uint32_t iref_parse_iri(const char *text, size_t length, struct iref_ranges *ranges);
 
 /* A reference of IRIs (RFC 3987 section 2.2). */
@@ -91,31 +92,41 @@ uint32_t iref_parse_iri_reference(const char *text, size_t length, struct iref_r
 
 /* What is wrong in a text, and where. */
 struct iref_place {
-    size_t what; /* IREF_NOTHING, or the first component that is outside its rule, or IREF_NOT_UTF8 */
+    size_t what; /* IREF_NOT_UTF8 if the bytes are not; else the first component outside its rule; else IREF_NOTHING */
     size_t at;   /* how many bytes stand before the place; 0 where nothing is wrong */
 };
 
-/* Why a text is no reference of IRIs, and where: it is cut into components by the expression of RFC 3986 appendix B. What
- * stands of the component before the place can begin one of its rule, and with the next character it cannot, unless the
- * component ends there. A host that begins with `[` and is outside its rule is wrong at the `[`. Of `http://h:8x0/` *place
- * becomes IREF_PORT and 10, of a reference IREF_NOTHING and 0. It answers IREF_OK, whatever the bytes are. */
+/* Why a text is no reference of IRIs, and where. It is cut into components by the expression of RFC 3986 appendix B, an
+ * authority at its first `@`, and what follows at the first `:`, or behind the first `]` if it begins with `[`. What stands
+ * of the component before the place can begin one of its rule, and with the next character it cannot, unless the component
+ * ends there. A host that begins with `[` and is outside its rule is wrong at the `[`. Bytes that are not UTF-8 are wrong
+ * behind the longest beginning that is. Of `http://h:8x0/` *place becomes IREF_PORT and 10, of each reference of IRIs
+ * IREF_NOTHING and 0, as of `a`, which is no URI. It answers IREF_OK, whatever the bytes are. */
 uint32_t iref_fault(const char *text, size_t length, struct iref_place *place);
 
-/* Comparison of references of IRIs: schemes without regard to case (RFC 3986 section 6.2.2.1), paths with their dot
- * segments removed (6.2.2.3), and every escape as the byte that it stands for, so `?a%26b` equals `?a&b`, which section 2.2
- * keeps apart. Hosts keep their case, which section 6.2.2.1 ignores, and no rule of a scheme is used. The three agree: two
- * references are equal exactly where their order is 0, and equal ones have one hash. Each answers IREF_OK, IREF_INVALID or
- * IREF_SECOND_INVALID. */
+/* Comparison of references of IRIs. First a reference is cut into its components, and its path into segments, as they are
+ * written, and the segments `.` and `..` are removed as by iref_normalize_path (RFC 3986 section 6.2.2.3). Then schemes
+ * are compared without regard to case (6.2.2.1), and elsewhere every escape as the byte that it stands for. So `?a%26b`
+ * equals `?a&b`, which section 2.2 keeps apart; but `/a%2Fb` is not equal to `/a/b`, nor `/a/%2E%2E/b` to `/b`, which other
+ * programs may take for the same: whoever checks that a path stays in a folder refuses `%2E` and `%2F` first. Hosts keep
+ * their case, which section 6.2.2.1 ignores, and no rule of a scheme is used. Relative references that are equal may
+ * resolve to different URIs: `a/..` and the empty one are equal, and so are `%2E%2E/x` and `../x`.
+ *
+ * The calls agree: two references are equal exactly where their order is 0, and equal ones have one hash. Each answers
+ * IREF_OK, IREF_INVALID or IREF_SECOND_INVALID. */
 
 /* *equal becomes 1 where the references are equal, else 0: it is 1 of `HTTP://a/%7Eb/./c` and `http://a/~b/c`. */
 uint32_t iref_equal(const char *first, size_t first_length, const char *second, size_t second_length, uint32_t *equal);
 
-/* *order becomes -1 where the first reference comes before the second, 0 where they are equal, and 1 where it comes after:
- * component by component, one that is absent first, and each byte by byte. */
+/* *order becomes -1 where the first reference comes before the second, 0 where they are equal, and 1 where it comes after.
+ * They are compared by scheme, authority (by user info, host and port), path, query and fragment, in this order. What is
+ * absent comes first. A path that does not begin with `/` comes before one that does; else segments are compared in turn,
+ * and the path that ends first comes first. Each is compared byte by byte, with its escapes as in iref_equal. */
 uint32_t iref_compare(const char *first, size_t first_length, const char *second, size_t second_length, int32_t *order);
 
-/* *hash becomes the hash of the reference, by SipHash-1-3 with keys of 0: the same in each run of each program. So whoever
- * may choose the texts can choose many with one hash: a table that strangers fill takes iref_hash_keyed. */
+/* *hash becomes the hash of the reference, by SipHash-1-3 with keys of 0: the same in each run of each program that has this
+ * version of the library. Another version may give another, so do not store it. Whoever may choose the texts can choose many
+ * with one hash: a table that strangers fill takes iref_hash_keyed. */
 uint32_t iref_hash(const char *text, size_t length, uint64_t *hash);
 
 /* *hash becomes the hash of the reference, by SipHash-1-3 with these keys, which are random and stay secret: iref_hash is
@@ -125,21 +136,27 @@ uint32_t iref_hash_keyed(const char *text, size_t length, uint64_t key0, uint64_
 /* Texts that are written into the caller's buffer `out` of `out_length` bytes, and *needed becomes their length. At
  * IREF_SHORT that is more than out_length, and the buffer is as it was. At IREF_OK the text stands first in the buffer, no
  * byte follows it, and the bytes of the buffer behind it are as they were. Each answers IREF_OK, IREF_INVALID, IREF_SHORT
- * or IREF_MEMORY, and where there are two texts IREF_SECOND_INVALID too. */
+ * or IREF_MEMORY, where there are two texts IREF_SECOND_INVALID too, and iref_relativized IREF_NONE too. */
 
-/* The normal form of a path of IRIs: without the segments `.` and `..` (RFC 3986 section 5.2.4), but for those `..` that
- * nothing cancels. Where it would be read as something else, a segment `.` stands first: `a/..//b` gives `.//b`. */
+/* The normal form of a path of IRIs: without the segments `.` and `..` (RFC 3986 section 5.2.4). A `..` that no segment
+ * before it cancels is removed from a path that begins with `/`, and stays at the front of another: `/../x` gives `/x`,
+ * `a/../../x` gives `../x`, and `..` gives `../`. Where the path would be read as something else, a segment `.` stands
+ * first: `a/..//b` gives `.//b`. */
 uint32_t iref_normalize_path(const char *path, size_t path_length, char *out, size_t out_length, size_t *needed);
 
 /* What a reference of IRIs resolves to against a base, which is an IRI: strict (RFC 3986 section 5.2). `../g` and
- * `http://a/b/c/d` give `http://a/b/g`. Section 5.2.4 removes each `..` that nothing cancels, but here a path that does
- * not begin with `/` keeps it: `../x` and `s:a` give `s:../x`. */
+ * `http://a/b/c/d` give `http://a/b/g`. The path that results is normal as by iref_normalize_path, so section 5.2.4 is not
+ * followed where it does not begin with `/`: `../x` and `s:a` give `s:../x`, and `x/..` and `s:a` give `s:`. And a segment
+ * `.` may stand first: `../..//` and `http:/a/b` give `http:/.//`, since `http://` would have an authority. A reference
+ * without a path keeps that of the base as it stands. */
 uint32_t iref_resolve(const char *reference, size_t reference_length, const char *base, size_t base_length, char *out,
                       size_t out_length, size_t *needed);
 
 /* A reference that leads from a base to a target, both references of IRIs: the way back from resolution (RFC 3986 section
- * 5.2). From `http://a/b/c/d` to `http://a/b` it is `../../b`. What differs in scheme or authority is given whole. Against
- * a base with a scheme it resolves to a text that is equal to what the target resolves to, perhaps in other characters. */
+ * 5.2). From `http://a/b/c/d` to `http://a/b` it is `../../b`. A target with another scheme or authority is given whole, and
+ * so is one whose path does not begin with `/`, as `http://a`, unless the empty path leads to it. A target that begins with
+ * `/` has the scheme of the base. Against a base with a scheme the reference resolves to a text that is equal to what the
+ * target resolves to, perhaps in other characters. */
 uint32_t iref_relative(const char *target, size_t target_length, const char *base, size_t base_length, char *out,
                        size_t out_length, size_t *needed);
 
@@ -156,7 +173,8 @@ uint32_t iref_to_uri(const char *reference, size_t reference_length, char *out, 
 
 /* The canonical text of a reference of IRIs, which is a reference of URIs: the same for two references exactly where they
  * are equal. `HTTP://a/%7Eb/./c` gives `http://a/~b/c`. It is to be compared and stored, not to be fetched: it is `?+` of
- * both `?%2B` and `?+`, which servers may tell apart. */
+ * both `?%2B` and `?+`, which servers may tell apart. Make it of what was resolved, not of a reference or a base: that of
+ * `.` is the empty text, and that of `%2E%2E/x` is `../x`, which resolve to other URIs. */
 uint32_t iref_canonical(const char *reference, size_t reference_length, char *out, size_t out_length, size_t *needed);
 
 /* The sort key of a reference of IRIs: bytes, of which any may be 0, that memcmp puts in the order of iref_compare, the
@@ -164,7 +182,8 @@ uint32_t iref_canonical(const char *reference, size_t reference_length, char *ou
 uint32_t iref_sort_key(const char *reference, size_t reference_length, char *out, size_t out_length, size_t *needed);
 
 /* The range of the sort keys of a reference of IRIs and of all below it: of those that have its scheme and its authority,
- * and whose normal path begins with all segments of its own. The end of the range is written: all *needed bytes, of which
+ * whose path begins with `/` exactly if its own does, and whose normal path begins with all segments of its own, compared
+ * as by iref_equal. Its query and fragment do not count. The end of the range is written: all *needed bytes, of which
  * the last is 2. The beginning of the range is the same bytes without the last: *needed - 1 of them. By memcmp, as
  * iref_sort_key says, these sort keys are not less than the beginning and are less than the end, and no other sort keys
  * are: an index tests `key >= ? AND key < ?`. They are also those that begin with the *needed - 1 bytes. Below
