@@ -56,7 +56,7 @@ static uint32_t sort_range(const struct text *texts, char *out, size_t out_lengt
     return iref_sort_range(texts[0].at, texts[0].length, out, out_length, needed);
 }
 
-/* A verb that writes a text, and how many texts it takes. */
+/* A verb that writes a text, and how many texts it takes. iref_cli has the first four; the others are checked alone. */
 struct verb {
     const char *name;
     size_t texts;
@@ -68,6 +68,7 @@ static const struct verb VERBS[] = {
     {"canonical", 1, canonical}, {"key", 1, sort_key},    {"range", 1, sort_range},    {"relativized", 2, shortest}};
 
 #define VERB_COUNT (sizeof VERBS / sizeof *VERBS)
+#define ANSWERED 4
 
 static int is_text(struct text text, const char *other) {
     return text.length == strlen(other) && memcmp(text.at, other, text.length) == 0;
@@ -126,8 +127,8 @@ static void answer_written(const struct verb *verb, const struct text *texts) {
 /* The first field is the verb, and the others are texts. */
 static void answer(const struct text *fields, size_t count) {
     size_t verb = 0;
-    while (verb < VERB_COUNT && !is_text(fields[0], VERBS[verb].name)) verb++;
-    if (verb < VERB_COUNT && count == 1 + VERBS[verb].texts)
+    while (verb < ANSWERED && !is_text(fields[0], VERBS[verb].name)) verb++;
+    if (verb < ANSWERED && count == 1 + VERBS[verb].texts)
         answer_written(&VERBS[verb], fields + 1);
     else if (is_text(fields[0], "parts") && count == 2)
         answer_parts(fields[1]);
@@ -455,6 +456,14 @@ static void check_bytes(void) {
 
 #define MOST_FIELDS 64
 
+/* The text in memory of its own, in which no byte stands behind it. */
+static struct text alone(struct text text) {
+    char *at = malloc(text.length + (text.length == 0));
+    if (!at) exit(2);
+    memcpy(at, text.at, text.length);
+    return (struct text){at, text.length};
+}
+
 /* The fields of a line, or as many of them as there is room for. */
 static size_t fields_of(const char *line, size_t length, struct text *fields) {
     size_t count = 0;
@@ -476,10 +485,12 @@ int main(int count, char **arguments) {
         struct text fields[MOST_FIELDS];
         if (length > 0 && line[length - 1] == '\n') length--;
         size_t found = fields_of(line, (size_t)length, fields);
+        for (size_t i = 0; i < found; i++) fields[i] = alone(fields[i]);
         if (is_check)
             check(fields, found);
         else
             answer(fields, found);
+        for (size_t i = 0; i < found; i++) free((char *)fields[i].at);
     }
     free(line);
     if (is_check) {
