@@ -145,10 +145,10 @@ uint32_t iref_hash_keyed(const char *text, size_t length, uint64_t key0, uint64_
 uint32_t iref_normalize_path(const char *path, size_t path_length, char *out, size_t out_length, size_t *needed);
 
 /* What a reference of IRIs resolves to against a base, which is an IRI: strict (RFC 3986 section 5.2). `../g` and
- * `http://a/b/c/d` give `http://a/b/g`. The path that results is normal as by iref_normalize_path, so section 5.2.4 is not
- * followed where it does not begin with `/`: `../x` and `s:a` give `s:../x`, and `x/..` and `s:a` give `s:`. And a segment
- * `.` may stand first: `../..//` and `http:/a/b` give `http:/.//`, since `http://` would have an authority. A reference
- * without a path keeps that of the base as it stands. */
+ * `http://a/b/c/d` give `http://a/b/g`. A reference without a path keeps that of the base as it stands. Else the path
+ * becomes normal, as by iref_normalize_path. Section 5.2.4 differs where it does not begin with `/`: here `../x` and `s:a`
+ * give `s:../x`, and `x/..` and `s:a` give `s:`. And a segment `.` may stand first: `../..//` and `http:/a/b` give
+ * `http:/.//`, since `http://` would have an authority. */
 uint32_t iref_resolve(const char *reference, size_t reference_length, const char *base, size_t base_length, char *out,
                       size_t out_length, size_t *needed);
 

@@ -55,7 +55,9 @@ impl<'a, S: SchemePart<'a>, C: CharSet> Parts<'a, S, C> {
 
 impl<'a, R: HeldRule, C: CharSet> Reference<'a, R, C> {
     /// A reference that leads from a base to this one: from `http://a/b/c/d` to `http://a/b` it is
-    /// `../../b`. What differs in scheme or authority is given whole.
+    /// `../../b`. One with another scheme or authority is given whole, and so is one whose path does
+    /// not begin with `/`, as `http://a`, unless the empty path leads to it. One that begins with
+    /// `/` has the scheme of the base.
     ///
     /// Where both have schemes, it resolves against the base to a reference that equals this one by
     /// `==`, perhaps in other characters: from `http://a/~b/d` to `http://a/%7Eb/c` it is `c`, which
