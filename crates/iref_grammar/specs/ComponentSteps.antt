@@ -13,7 +13,7 @@ unfoldable pub with_scheme : Option Text → ReferenceValue → ReferenceValue
 with_scheme None r = guarded_reference (record r { scheme = None })
 with_scheme (Some s) r = record r { scheme = Some s }
 
--- where an authority comes to stand, the path becomes absolute, the empty one too (section 3.3)
+-- where an authority comes to stand, the path becomes absolute: one with segments by section 3.3, the empty one by choice
 abbrev pub path_after_new_authority : Option AuthorityValue → ReferenceValue → PathValue
 path_after_new_authority authority r =
     if is_some authority then (if is_none r.authority then record r.path { absolute = true } else r.path) else r.path

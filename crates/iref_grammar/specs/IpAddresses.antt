@@ -5,7 +5,7 @@ use Rattle.std.specs.{Prelude.{if◌then◌else◌}, List.{AllZip, join_with_byt
 use Rattle.std.specs.{Char.{is_ascii_hexdigit}, Str.Parse.{digits_value}}
 use Rattle.iref_grammar.specs.{Rules.{Text}, Texts.{pieces_at, is_empty, begins_with}}
 
--- the number of parts below base, the first one highest
+-- the number that has these digits in this base, the highest first
 abbrev pub number_of : ℕ → List ℕ → ℕ
 number_of base parts = fold (λ n part. base * n + part) 0 parts
 

@@ -1,5 +1,6 @@
 -- What references are compared by, with no rules of schemes. It is wider than RFC 3986 section 6.2.2.2, since each escape is
--- decoded, and narrower than section 6.2.2.1, since hosts keep their case.
+-- decoded, and narrower than section 6.2.2.1, since hosts keep their case. Dot segments are removed before escapes are decoded,
+-- so `/%2E%2E/x` and `/../x` differ, which sections 6.2.2.2 and 6.2.2.3 make equal, while `%2E%2E/x` and `../x` are equal.
 use Rattle.std.specs.{Prelude.{◌≡◌, Bool, option_map}, Option.{option_cmp}, Str.{str_to_ascii_lowercase}}
 use Rattle.std.specs.{declared.cmp.Ordering.{Ordering}, Ordering.{ordering_then, is_eq}}
 use Rattle.percent_encoding.specs.Percent.{percent_decode}

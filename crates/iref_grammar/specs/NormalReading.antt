@@ -22,7 +22,7 @@ leading_parents absolute count = if absolute then [] else replicate count (codes
 abbrev pub closing : Bool → List Text
 closing ends = if ends then [] ∷ [] else []
 
--- the items of the normal list, and one empty segment where the list has only that
+-- the items of the normal list; where that is empty, one empty segment if the list ends in `.` or `..`, as of `.` and `/a/..`
 abbrev pub items : PathValue → List Text
 items p =
     leading_parents p.absolute (open_before p.segments 0) ++ (staying_before p.segments 0 ++ closing (ends_in_dots p.segments))

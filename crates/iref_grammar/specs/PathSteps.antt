@@ -17,7 +17,7 @@ abbrev pub ends_in_parent : List Text → Bool
 ends_in_parent [] = false
 ends_in_parent (s ∷ rest) = if is_empty rest then is_dot_dot s else ends_in_parent rest
 
--- without the last segment, where `..` has to be written for that
+-- without the last segment, whatever it is, `.` too; but a list that ends in `..`, and the empty relative one, get a `..` more
 unfoldable pub popped : PathContext → PathValue → PathValue
 popped context p =
     if ends_in_parent p.segments || is_empty p.segments && not p.absolute

@@ -22,7 +22,8 @@ abbrev pub schemes_agree : ReferenceValue → ReferenceValue → Bool
 schemes_agree target base =
     have_same_scheme target base || is_none target.scheme && (is_some target.authority || target.path.absolute)
 
--- the empty path leads to the target: it stands for the base's path and, where the target has none, the base's query
+-- The empty path is taken for the target's: it leads to the base's path and, where the reference has none, to the base's query.
+-- It is not taken for an absolute path with segments that nothing follows: from `http://a/b` to itself the path is `b`.
 abbrev pub is_same_place : ReferenceValue → ReferenceValue → Bool
 is_same_place target base =
     have_same_path target base && (is_some target.query || is_none base.query)

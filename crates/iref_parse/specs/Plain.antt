@@ -32,11 +32,11 @@ is_common_byte b = is_plain_byte b || is_of_common b
 abbrev pub is_unescaped_byte : ℕ → Bool
 is_unescaped_byte b = is_ascii b && is_not_percent b
 
--- 0 exactly if it is another byte than `%`
+-- 0 exactly if the byte is not `%`
 abbrev pub percent_mark : ℕ → ℕ
 percent_mark b = if b == percent_sign then 255 else 0
 
--- 0 exactly if it is one
+-- 0 exactly if it is an ASCII byte other than `%`
 abbrev pub unescaped_mark : ℕ → ℕ
 unescaped_mark b = bit_or (bit_and b 128) (percent_mark b)
 
@@ -44,7 +44,7 @@ unescaped_mark b = bit_or (bit_and b 128) (percent_mark b)
 abbrev pub is_kept_byte : ℕ → Bool
 is_kept_byte b = nat_lt 1 b && is_not_percent b
 
--- 0 exactly if it is one
+-- 0 exactly if it is other than 0, 1 and `%`
 abbrev pub kept_mark : ℕ → ℕ
 kept_mark b = bit_or (if bit_and b 254 == 0 then 255 else 0) (percent_mark b)
 

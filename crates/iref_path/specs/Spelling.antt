@@ -10,11 +10,11 @@ use Rattle.iref_path.specs.NormalItems.{flagged_path}
 abbrev pub each_closed : List Text → Text
 each_closed segments = flat_map (λ s. s ++ slash ∷ []) segments
 
--- a first segment would be read as a scheme, or would not show
+-- the first segment of a normal list would be read as a scheme or as an authority, or would not show
 abbrev pub first_needs_guard : PathContext → Bool → Text → Bool
 first_needs_guard context rooted s = is_empty s || not (rooted || context.has_scheme) && char_set_contains s colon
 
--- a list begins with this segment where no authority stands before it
+-- a normal list that begins with this segment needs a guard, as none does behind an authority
 abbrev pub needs_guard : PathContext → Bool → Text → Bool
 needs_guard context absolute first = not context.has_authority && first_needs_guard context absolute first
 

@@ -17,7 +17,7 @@ pub use Rattle.iref_grammar.specs.ReferenceParts.{base_of}
 pub use Rattle.iref_parse.specs.ReferenceSlices.{texts_of, value_of}
 pub use Rattle.iref_component.specs.Makers.{Parses}
 pub use Rattle.iref_reference_text.specs.ComponentLengths.{context_by, HasLengths, lengths_of, placed, total_length, with_mark}
-pub use Rattle.iref_reference_text.specs.PathTexts.{authority_text, path_text, with_path_read, with_path_text}
+pub use Rattle.iref_reference_text.specs.PathTexts.{authority_text, with_path_read, with_path_text}
 pub use Rattle.iref_reference_text.specs.RangeTexts.{AreWithin, texts_at}
 pub use Rattle.iref_splice.specs.Changes.{IsWithin}
 pub mod RangeTexts

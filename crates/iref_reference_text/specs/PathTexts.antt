@@ -1,15 +1,12 @@
--- The texts of the authority and the path of a reference, and the reference with another path.
+-- The text of the authority of a reference, and the reference with another path.
 use Rattle.std.specs.{Prelude.{codes, option_map}, List.{splice}}
 use Rattle.iref_grammar.specs.{Rules.{Text}, Texts.{then_part}, Authority.{spell_authority}, PathValue.{read_path}}
-use Rattle.iref_grammar.specs.{Reference.{ReferenceValue, read_reference}, ComponentOffsets.{offsets_of, text_at}}
+use Rattle.iref_grammar.specs.{Reference.{ReferenceValue, read_reference}, ComponentOffsets.{offsets_of}}
 
 -- the authority and its delimiter
 abbrev pub authority_text : Text → Text
 authority_text text =
     then_part (codes "//") (option_map spell_authority (read_reference text).authority)
-
-abbrev pub path_text : Text → Text
-path_text text = text_at text (offsets_of text).path
 
 -- another text instead of the path's
 abbrev pub with_path_text : Text → Text → Text

@@ -9,7 +9,7 @@ row_of t =
     else (if is_empty t.path then Base
     else (if (read_path t.path).absolute then Rooted else Merged))
 
--- what it resolves to has its path after the base's authority
+-- the reference's own path, or the merged one, stands behind the base's authority
 abbrev pub has_path : Row → Bool
 has_path Own = false
 has_path Base = false
