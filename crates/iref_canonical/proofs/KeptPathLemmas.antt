@@ -10,7 +10,7 @@ use Rattle.iref_grammar.specs.Grammar.{slash, is_path_char, is_reg_name_char, is
 use Rattle.iref_grammar.specs.{PathValue.{begins_empty, read_path, spell_path}, Rules.{Text}, Texts.{lacks, pieces_at}}
 use Rattle.iref_grammar.proofs.{LackLemmas.{all_lacks}, PathLemmas.{read_path-reads}}
 use Rattle.iref_grammar.specs.{Guard.{guarded}, NormalList.{is_name}, PathKey.{path_key}}
-use Rattle.iref_parse.specs.{Dots.{begins_with_dot, has_dot_segment, is_some_dotted}, Plain.{is_path_byte}}
+use Rattle.iref_parse.specs.{Dots.{begins_with_dot, has_dotted_segment, is_some_dotted}, Plain.{is_path_byte}}
 use Rattle.iref_path.proofs.{DotlessLemmas.{dotless_name}, GuardTextLemmas.{guarded-same}}
 use Rattle.iref_canonical.specs.Canonical.{encoded, is_raw, spelled_list, spelled_name, spelled_path, spelled_relative, stands}
 use Rattle.iref_canonical.specs.KeptPaths.{is_kept_path, is_rooted}
@@ -109,8 +109,8 @@ module _ (raw : Bool) where
   unfolding path_key
   same_path text h =
       let p = read_path text in
-      let front = and_parts (is_rooted text) (list_all is_path_byte text) (and_parts _ (not (has_dot_segment text)) h).0 in
-      let dotless = read_dotless text (not-true _ (and_parts _ (not (has_dot_segment text)) h).1) in
+      let front = and_parts (is_rooted text) (list_all is_path_byte text) (and_parts _ (not (has_dotted_segment text)) h).0 in
+      let dotless = read_dotless text (not-true _ (and_parts _ (not (has_dotted_segment text)) h).1) in
       let reads = read_path-reads text in
       let list = ap (λ l. map (spelled_name raw) (map percent_decode l)) (normal_same p dotless reads.shown) ∙ same_items p.segments dotless reads.segments (segments_stand text front.1) in
       let items : spelled_list raw (path_key p) ≡ p.segments =
@@ -119,7 +119,7 @@ module _ (raw : Bool) where
 
   pub kept-path : (context : PathContext) (text : Text) → is_kept_path text ≡ true → spell_path (guarded context (spelled_path raw (path_key (read_path text)))) ≡ text
   kept-path context text h =
-      let rooted = (and_parts (is_rooted text) (list_all is_path_byte text) (and_parts _ (not (has_dot_segment text)) h).0).0 in
+      let rooted = (and_parts (is_rooted text) (list_all is_path_byte text) (and_parts _ (not (has_dotted_segment text)) h).0).0 in
       ap (λ p. spell_path (guarded context p)) (same_path text h) ∙ ap spell_path (guarded-same context (read_path text) (rooted-fits context text rooted)) ∙ (read_path-reads text).spelled
 
 pub ruleset kept = (kept-path)

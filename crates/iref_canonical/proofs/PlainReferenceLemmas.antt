@@ -17,7 +17,7 @@ use Rattle.iref_grammar.proofs.ReferenceCutLemmas.{read_reference-spelled}
 use Rattle.iref_grammar.specs.{AuthorityKey.{authority_key}, ComponentSteps.{guarded_reference}}
 use Rattle.iref_grammar.specs.{NormalList.{is_dot, is_dot_dot, is_name, normal_segments}, PathKey.{path_key}, Key.{key}}
 use Rattle.iref_grammar.specs.Mapping.{mapped, mapped_authority, mapped_reference}
-use Rattle.iref_parse.specs.Dots.{begins_with_dot, is_some_dotted, has_dot_segment}
+use Rattle.iref_parse.specs.Dots.{begins_with_dot, is_some_dotted, has_dotted_segment}
 use Rattle.iref_grammar.proofs.AsciiReferenceLemmas.{is_reference-mapped, read_reference-tested}
 use Rattle.iref_grammar.proofs.MappedLemmas.{mapped-ascii, mapped-escaped, mapped-kept}
 use Rattle.iref_path.proofs.{DotlessLemmas.{dotless_name, normal_segments-dotless}, GuardTextLemmas.{guarded-same}}
@@ -49,7 +49,7 @@ pub normal_same : (p : PathValue) → is_some_dotted p.segments ≡ false → sh
 normal_same p d h = normal_segments-dotless p d ∙ cond-false (is_one_empty p.segments) [] p.segments (not_lone p h)
 
 -- the segments of a path are those of its text
-pub read_dotless : (text : Text) → has_dot_segment text ≡ false → is_some_dotted (read_path text).segments ≡ false
+pub read_dotless : (text : Text) → has_dotted_segment text ≡ false → is_some_dotted (read_path text).segments ≡ false
 unfolding read_path
 read_dotless [] h = refl
 read_dotless (c ∷ cs) h = grind arith

@@ -5,7 +5,7 @@ use Rattle.std.proofs.lemmas.Grind.{common_steps, flat_map-append}
 use Rattle.std.proofs.{lemmas.List.{append-nil, drop-drop, take-take, take_at}, Math.Seq.{take-add}}
 use Rattle.std.specs.{Char.{char_set_contains}, List.{position_or_len}}
 use Rattle.iref_grammar.specs.{Grammar.{slash}, Rules.{Text}}
-use Rattle.iref_parse.specs.Dots.{begins_with_dot, has_dot_segment, is_slash_dot}
+use Rattle.iref_parse.specs.Dots.{begins_with_dot, has_dotted_segment, is_slash_dot}
 use Rattle.iref_parse.proofs.{DotSegmentLemmas.{dots_by_pairs}, PairLemmas.{no_pair}}
 use Rattle.iref_canonical.specs.SortPuts.{Puts, segment_byte, segment_bytes}
 
@@ -120,7 +120,7 @@ module _ (t : Text) (from : ℕ) (so_far : IsDotlessBefore from t) where
       let dot = ap (λ j. get_or t j 0 == 0x2E) (sym after) ∙ next in
       grind (arith, nat_tests)) (cases_lt k (from + f))
 
-pub dotless_text : (n : ℕ) (t : Text) → n ≤ length t → (get_or t 0 0 == 0x2E) ≡ false → ((k : ℕ) → k + 1 < n → is_slash_dot t k ≡ false) → has_dot_segment (take n t) ≡ false
+pub dotless_text : (n : ℕ) (t : Text) → n ≤ length t → (get_or t 0 0 == 0x2E) ≡ false → ((k : ℕ) → k + 1 < n → is_slash_dot t k ≡ false) → has_dotted_segment (take n t) ≡ false
 dotless_text n t long first none =
     let pairs = no_pair slash 0x2E (take n t) (λ k l.
     let within : k + 1 < n = grind (arith, length-take) in

@@ -7,7 +7,7 @@ use Rattle.percent_encoding.specs.Percent.{percent_decode}
 use Rattle.iref_grammar.specs.{Grammar.{slash}, Rules.{Text}, Texts.{pieces_at}}
 use Rattle.iref_grammar.specs.PathValue.{PathValue, is_one_empty, read_path, segments_of}
 use Rattle.iref_grammar.specs.PathKey.{path_key}
-use Rattle.iref_parse.specs.Dots.{is_some_dotted, has_dot_segment}
+use Rattle.iref_parse.specs.Dots.{is_some_dotted, has_dotted_segment}
 use Rattle.iref_path.specs.Spelling.{each_closed}
 use Rattle.iref_path.proofs.DotlessLemmas.{both_size, normal_segments-dotless, whole_text}
 use Rattle.iref_canonical.specs.{SortKey.{sort_item, sort_text}, SortBytes.{is_kept_byte, is_kept}, SortItems.{AreKept}}
@@ -69,11 +69,11 @@ kept_pieces (c ∷ cs) h =
     by true k l = k
     by false k l = l
 
-plain_segments : (text : Text) → is_kept text ≡ true → has_dot_segment text ≡ false → IsPlainList (segments_of text)
+plain_segments : (text : Text) → is_kept text ≡ true → has_dotted_segment text ≡ false → IsPlainList (segments_of text)
 plain_segments [] h k = record { kept = refl; dotless = refl; many = refl }
 plain_segments (c ∷ cs) h k = record { kept = kept_pieces (c ∷ cs) h; dotless = k; many = whole_text c cs }
 
-plain_path : (path : Text) → is_kept path ≡ true → has_dot_segment path ≡ false → IsPlainList (read_path path).segments
+plain_path : (path : Text) → is_kept path ≡ true → has_dotted_segment path ≡ false → IsPlainList (read_path path).segments
 unfolding read_path
 plain_path [] h k = record { kept = refl; dotless = refl; many = refl }
 plain_path (c ∷ cs) h k = by (c == slash) k
@@ -89,10 +89,10 @@ decoded_items (s ∷ list) h =
     let both = and_parts (is_kept s) (list_all is_kept list) h in
     λ i. kept_decodes s both.0 i ∷ decoded_items list both.1 i
 
-pub kept_path : (path : Text) → is_kept path ≡ true → has_dot_segment path ≡ false → AreKept (read_path path).segments
+pub kept_path : (path : Text) → is_kept path ≡ true → has_dotted_segment path ≡ false → AreKept (read_path path).segments
 kept_path path h k = (plain_path path h k).kept
 
-pub kept_key : (path : Text) → is_kept path ≡ true → has_dot_segment path ≡ false → (path_key (read_path path)).segments ≡ (read_path path).segments
+pub kept_key : (path : Text) → is_kept path ≡ true → has_dotted_segment path ≡ false → (path_key (read_path path)).segments ≡ (read_path path).segments
 unfolding path_key
 kept_key path h k =
     let p = read_path path in

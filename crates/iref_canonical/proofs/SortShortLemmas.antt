@@ -12,7 +12,7 @@ use Rattle.iref_grammar.specs.{Reference.{ReferenceValue, read_reference, spell}
 use Rattle.iref_grammar.specs.Texts.{part_then, pieces_at, then_part}
 use Rattle.iref_grammar.proofs.ReferenceCutLemmas.{read_reference-spelled}
 use Rattle.iref_grammar.specs.{AuthorityKey.{authority_key}, Key.{key}, PathKey.{path_key}}
-use Rattle.iref_parse.specs.{Dots.{has_dot_segment}, ReferenceSlices.{texts_of, value_of}}
+use Rattle.iref_parse.specs.{Dots.{has_dotted_segment}, ReferenceSlices.{texts_of, value_of}}
 use Rattle.iref_parse.specs.declared.split.ReferenceSlices.{ReferenceSlices}
 use Rattle.iref_canonical.specs.{SortBytes.{is_kept, are_kept_parts}, SortItems.{AreKept}}
 use Rattle.iref_canonical.specs.SortKey.{sort_authority, sort_item, sort_key, sort_list, sort_option, sort_path, sort_text}
@@ -35,7 +35,7 @@ decoded_authority : (o : Option AuthorityValue) → none_or are_kept_parts o ≡
 decoded_authority None h = refl
 decoded_authority (Some a) h = λ i. Some (record { user_info = decoded_option a.user_info (kept_user_info a h) i; host = kept_decodes a.host (kept_host a h) i; port = a.port })
 
-kept_path_key : (path : Text) → is_kept path ≡ true → has_dot_segment path ≡ false → path_key (read_path path) ≡ read_path path
+kept_path_key : (path : Text) → is_kept path ≡ true → has_dotted_segment path ≡ false → path_key (read_path path) ≡ read_path path
 unfolding path_key
 kept_path_key path h k = λ i. record { absolute = (read_path path).absolute; segments = kept_key path h k i }
 
@@ -122,7 +122,7 @@ module _ (text : Text) (s : ReferenceSlices) (value : value_of s ≡ read_refere
       fragment = ap (λ (r : ReferenceValue). none_or is_kept r.fragment) value ∙ kept.fragment;
     }
 
-    pub lowered_key : has_dot_segment s.path.now ≡ false → lowered (value_of s) ≡ key (read_reference text)
+    pub lowered_key : has_dotted_segment s.path.now ≡ false → lowered (value_of s) ≡ key (read_reference text)
     unfolding key
     lowered_key dotless =
         sym (λ i. record {

@@ -2,7 +2,7 @@
 use Rattle.std.specs.{Prelude.{◌≡◌, Bool, true, false, not, ◌&&◌, ◌==◌, [], ◌∷◌, map}, List.{join_with_byte, list_all}}
 use Rattle.iref_grammar.specs.{Grammar.{slash}, PathValue.{read_path}, Rules.{Text}}
 use Rattle.iref_grammar.specs.PathKey.{path_key}
-use Rattle.iref_parse.specs.{Dots.{has_dot_segment}, Plain.{is_path_byte}}
+use Rattle.iref_parse.specs.{Dots.{has_dotted_segment}, Plain.{is_path_byte}}
 use Rattle.iref_canonical.specs.{Canonical.{spelled_name}, declared.path.CanonicalPath.{CanonicalPath}}
 use Rattle.iref_canonical.specs.declared.path.CanonicalPath.TheVariants.{Kept, Rooted, Spelled}
 use Rattle.iref_canonical.specs.SpelledItems.{IsCounted, spelled_path_text}
@@ -15,7 +15,7 @@ is_rooted (c ∷ d ∷ rest) = c == slash && not (d == slash)
 
 -- and it has no escape, no character beyond ASCII and no segment that begins with a dot
 abbrev pub is_kept_path : Text → Bool
-is_kept_path path = is_rooted path && list_all is_path_byte path && not (has_dot_segment path)
+is_kept_path path = is_rooted path && list_all is_path_byte path && not (has_dotted_segment path)
 
 -- the text of an absolute path behind an authority, which needs no guard
 abbrev pub rooted_text : Bool → Text → Text

@@ -6,7 +6,7 @@ ghost use Rattle.iref_grammar.specs.{Authority.{read_authority}, ComponentTexts.
 ghost use Rattle.iref_grammar.specs.{PathValue.{read_path, segments_of}, Tests.{none_or}};
 ghost use Rattle.iref_grammar.specs.Reference.{read_reference};
 ghost use Rattle.iref_grammar.specs.Key.{key};
-ghost use Rattle.iref_parse.specs.{Dots.{has_dot_segment}, ReferenceSlices.{texts_of, value_of}};
+ghost use Rattle.iref_parse.specs.{Dots.{has_dotted_segment}, ReferenceSlices.{texts_of, value_of}};
 ghost use Rattle.iref_canonical.specs.{Padded.{BeginsWith, IsPadded, text_in}, SortBytes.{is_kept, are_kept_parts}};
 ghost use Rattle.iref_canonical.specs.{SortKey.{sort_authority, sort_item, sort_key, sort_list}};
 ghost use Rattle.iref_canonical.specs.{SortKey.{sort_option, sort_path, sort_text}, SortPuts.{AreKeptSlices, Puts}};
@@ -142,7 +142,7 @@ fn put_segments(buffer: &mut [u8], at: usize, text: Padded<'_>) -> Option<usize>
     requires room { at + length (segment_bytes (text_in text)) + 16 ≤ length buffer.old }
     ensures put { IfSome result (λ end.
         Puts at (segment_bytes (text_in text.entry)) buffer.old buffer.new end) }
-    ensures dotless { IfSome result (λ end. has_dot_segment (text_in text.entry) ≡ false) }
+    ensures dotless { IfSome result (λ end. has_dotted_segment (text_in text.entry) ≡ false) }
 {
     if text.bytes[0] == b'.' {
         return None;
@@ -181,7 +181,7 @@ fn put_items(buffer: &mut [u8], at: usize, text: Padded<'_>) -> Option<usize>
     ensures put { IfSome result (λ end.
         Puts at (sort_list sort_item (segments_of (text_in text.entry)))
         buffer.old buffer.new end) }
-    ensures dotless { IfSome result (λ end. has_dot_segment (text_in text.entry) ≡ false) }
+    ensures dotless { IfSome result (λ end. has_dotted_segment (text_in text.entry) ≡ false) }
 {
     if text.len == 0 {
         return Some(put(buffer, at, 0));
@@ -201,7 +201,7 @@ fn put_path(buffer: &mut [u8], at: usize, path: Padded<'_>) -> Option<usize>
     requires room { at + length (sort_path (read_path (text_in path))) + 16 ≤ length buffer.old }
     ensures put { IfSome result (λ end.
         Puts at (sort_path (read_path (text_in path.entry))) buffer.old buffer.new end) }
-    ensures dotless { IfSome result (λ end. has_dot_segment (text_in path.entry) ≡ false) }
+    ensures dotless { IfSome result (λ end. has_dotted_segment (text_in path.entry) ≡ false) }
 {
     if 0 < path.len && path.bytes[0] == b'/' {
         let at = put(buffer, at, 1);
@@ -327,7 +327,7 @@ fn put_all(buffer: &mut [u8], text: Padded<'_>, slices: ReferenceSlices<'_>) -> 
     ensures put { IfSome result (λ end.
         Puts 0 (sorted_slices slices.entry) buffer.old buffer.new end) }
     ensures dotless { IfSome result (λ end.
-        has_dot_segment slices.entry.path.now ≡ false) }
+        has_dotted_segment slices.entry.path.now ≡ false) }
 {
     let at = put_scheme(buffer, 0, slices.scheme);
     let rest = text.skip(marked_len(1, slices.scheme));

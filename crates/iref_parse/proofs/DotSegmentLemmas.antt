@@ -2,7 +2,7 @@
 use Rattle.std.proofs.Common.{◌≡◌, ℕ, List, [], ◌∷◌, Bool, true, false, cond, ◌||◌, eqb, refl, sym, ap, ◌∙◌, arith}
 use Rattle.std.specs.List.{list_any, slice_split, onto_first}
 use Rattle.std.proofs.lemmas.Bool.Decides.{nat_tests}
-use Rattle.iref_parse.specs.Dots.{begins_with, begins_with_dot, has_dot_segment, has_pair, is_slash_dot}
+use Rattle.iref_parse.specs.Dots.{begins_with, begins_with_dot, has_dotted_segment, has_pair, is_slash_dot}
 use Rattle.iref_parse.proofs.PairLemmas.{no_pair}
 
 abbrev parts : List ℕ → List (List ℕ)
@@ -24,13 +24,13 @@ rest_onto_first : (x : ℕ) (ss : List (List ℕ)) → list_any begins_with_dot 
 rest_onto_first x [] = refl
 rest_onto_first x (s ∷ ss) = refl
 
-later_after_slash : (x : ℕ) (xs : List ℕ) → eqb x 0x2F ≡ true → later (x ∷ xs) ≡ has_dot_segment xs
+later_after_slash : (x : ℕ) (xs : List ℕ) → eqb x 0x2F ≡ true → later (x ∷ xs) ≡ has_dotted_segment xs
 later_after_slash x xs t = ap (λ b. list_any begins_with_dot (rest (cond b ([] ∷ parts xs) (onto_first x (parts xs))))) t
 
 later_after_other : (x : ℕ) (xs : List ℕ) → eqb x 0x2F ≡ false → later (x ∷ xs) ≡ later xs
 later_after_other x xs t = ap (λ b. list_any begins_with_dot (rest (cond b ([] ∷ parts xs) (onto_first x (parts xs))))) t ∙ rest_onto_first x (parts xs)
 
-first_or_later : (path : List ℕ) → has_dot_segment path ≡ (begins_with_dot path || later path)
+first_or_later : (path : List ℕ) → has_dotted_segment path ≡ (begins_with_dot path || later path)
 first_or_later [] = refl
 first_or_later (x ∷ xs) = grind (arith, nat_tests, any_onto_first x (parts xs), rest_onto_first x (parts xs))
 
@@ -48,7 +48,7 @@ later_is [] = refl
 later_is (x ∷ xs) = later_step x xs (later_is xs) (eqb x 0x2F) refl
 
 -- a segment begins with a dot where the text does, or where `.` follows `/`
-pub dots_by_pairs : (path : List ℕ) → has_dot_segment path ≡ (begins_with_dot path || has_pair 0x2F 0x2E path)
+pub dots_by_pairs : (path : List ℕ) → has_dotted_segment path ≡ (begins_with_dot path || has_pair 0x2F 0x2E path)
 dots_by_pairs path = first_or_later path ∙ ap (λ t. begins_with_dot path || t) (later_is path)
 
 -- no segment after the first begins with a dot where no `/.` is

@@ -12,8 +12,8 @@ abbrev pub is_some_dotted : List Text → Bool
 is_some_dotted segments = list_any begins_with_dot segments
 
 -- one of the segments of the text does, which `/` parts
-abbrev pub has_dot_segment : Text → Bool
-has_dot_segment path = is_some_dotted (pieces_at slash path)
+abbrev pub has_dotted_segment : Text → Bool
+has_dotted_segment path = is_some_dotted (pieces_at slash path)
 
 -- the text begins with this byte
 abbrev pub begins_with : ℕ → Text → Bool

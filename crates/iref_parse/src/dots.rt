@@ -1,7 +1,7 @@
 //! Whether a segment of a path begins with a dot, where the first behind a `/` does, and whether two
 //! dots stand side by side.
 ghost use Rattle.std.specs.Prelude.{◌≡◌, ℕ, ◌+◌, ◌<◌, ◌≤◌, if◌then◌else◌, length, false, true};
-ghost use Rattle.iref_parse.specs.{Lanes.{HasLanes}, Dots.{begins_with_dot, has_dot_segment, is_slash_dot}};
+ghost use Rattle.iref_parse.specs.{Lanes.{HasLanes}, Dots.{begins_with_dot, has_dotted_segment, is_slash_dot}};
 ghost use Rattle.iref_parse.specs.Dots.{has_dot_pair, has_pair, is_pair};
 
 use crate::lanes::{both, common_lanes, either, equal_to, is_clear, load};
@@ -92,7 +92,7 @@ fn begins_with_dot(text: &[u8]) -> bool
 #[inline(always)]
 #[tactic(auto, using(crate::proofs::DotSegmentLemmas::dots_by_pairs))]
 pub fn has_dots(path: &[u8]) -> bool
-    ensures { result ≡ has_dot_segment path.now }
+    ensures { result ≡ has_dotted_segment path.now }
 {
     begins_with_dot(path) || has_pair(path, b'/', b'.')
 }

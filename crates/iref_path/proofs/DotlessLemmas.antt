@@ -12,7 +12,7 @@ use Rattle.iref_grammar.specs.{NormalReading.{open_before, staying_before}, Path
 use Rattle.iref_grammar.specs.Relative.{directory_names, steps_between}
 use Rattle.iref_grammar.proofs.{ItemLemmas.{name_no_parent, normal_segments-is}, PieceLemmas.{pieces-append, some_piece}}
 use Rattle.iref_grammar.proofs.StayingLemmas.{staying_names-is}
-use Rattle.iref_parse.specs.Dots.{begins_with_dot, has_dot_segment, is_some_dotted}
+use Rattle.iref_parse.specs.Dots.{begins_with_dot, has_dotted_segment, is_some_dotted}
 use Rattle.iref_path.specs.{Bodies.{after_front}, Pieces.{pieces_if_some}, NormalItems.{first_or}}
 use Rattle.iref_path.specs.{StepsBetween.{text_steps}, Spelling.{each_closed, guard_in}}
 use Rattle.iref_path.proofs.SlashLemmas.{read-absolute}
@@ -49,7 +49,7 @@ pub unguarded : (context : PathContext) (absolute : Bool) (n : ℕ) (s t : Text)
 unguarded context absolute n s t h = grind arith
 
 -- the text of the segments, after what stands first, spells the normalized path
-pub dotless-spelled : (context : PathContext) (absolute : Bool) (text first : Text) (rest : List Text) → pieces_at slash text ≡ first ∷ rest → has_dot_segment text ≡ false
+pub dotless-spelled : (context : PathContext) (absolute : Bool) (text first : Text) (rest : List Text) → pieces_at slash text ≡ first ∷ rest → has_dotted_segment text ≡ false
     → guard_in context absolute (length text) first ++ text ≡ spell_path (normalized context (record { absolute = absolute; segments = pieces_at slash text }))
 dotless-spelled context absolute [] first rest e h =
     let p : PathValue = record { absolute = absolute; segments = [] ∷ [] } in
@@ -68,7 +68,7 @@ pub both_pieces : (front : Option (Bor Text)) (back : Text) → pieces_at slash 
 both_pieces front back = grind (arith, pieces-append)
 
 -- a segment of either begins with a dot
-pub both_dotted : (front back : Text) → (has_dot_segment front || has_dot_segment back) ≡ has_dot_segment (front ++ slash ∷ back)
+pub both_dotted : (front back : Text) → (has_dotted_segment front || has_dotted_segment back) ≡ has_dotted_segment (front ++ slash ∷ back)
 both_dotted front back = grind (arith, list_any-append, pieces-append)
 
 -- the text is not longer than its segments are
@@ -87,17 +87,17 @@ none_in_front test [] h = refl
 none_in_front test (s ∷ rest) h = grind (arith, none_in_front test rest)
 
 -- the names of the directory are its segments
-dotless_names : (text : Text) → has_dot_segment text ≡ false → staying_names (all_but_last (segments_of text)) ≡ all_but_last (pieces_at slash text)
+dotless_names : (text : Text) → has_dotted_segment text ≡ false → staying_names (all_but_last (segments_of text)) ≡ all_but_last (pieces_at slash text)
 dotless_names [] h = staying_names-is []
 dotless_names (c ∷ cs) h = grind (arith, staying_names-is, all_stay, none_in_front begins_with_dot)
 
 -- the steps lead to the segments
-dotless_target : (directory : List Text) (text : Text) → has_dot_segment text ≡ false
+dotless_target : (directory : List Text) (text : Text) → has_dotted_segment text ≡ false
     → steps_between directory (pieces_at slash text) ≡ steps_between directory (normal_segments (record { absolute = true; segments = segments_of text }))
 dotless_target directory [] h = grind (arith, normal_segments-dotless)
 dotless_target directory (c ∷ cs) h = grind (arith, normal_segments-dotless, whole_text)
 
-pub dotless-steps : (base path below rest : Text) → base ≡ slash ∷ below → path ≡ slash ∷ rest → has_dot_segment below ≡ false → has_dot_segment rest ≡ false
+pub dotless-steps : (base path below rest : Text) → base ≡ slash ∷ below → path ≡ slash ∷ rest → has_dotted_segment below ≡ false → has_dotted_segment rest ≡ false
     → text_steps below rest ≡ steps_between (directory_names (read_path base)) (normal_segments (read_path path))
 dotless-steps base path below rest e f h k =
     cc (dotless_target (all_but_last (pieces_at slash below)) rest k, dotless_names below h, read-absolute base below _ e refl, read-absolute path rest _ f refl)

@@ -10,7 +10,7 @@ use Rattle.iref_grammar.specs.RelativizedTests.{is_reachable_from}
 use Rattle.iref_grammar.proofs.{DirectoryLemmas.{all_but_last-snoc}, ItemLemmas.{name_no_parent}, JoinedLemmas.{climbs}}
 use Rattle.iref_grammar.proofs.{LeadingLemmas.{divided_last}, PieceLemmas.{some_piece}, AddedLemmas.{guarded-same}}
 use Rattle.iref_grammar.proofs.WalkLemmas.{climb-is}
-use Rattle.iref_parse.specs.Dots.{begins_with_dot, has_dot_segment, is_some_dotted}
+use Rattle.iref_parse.specs.Dots.{begins_with_dot, has_dotted_segment, is_some_dotted}
 use Rattle.iref_path.specs.{ShortestPaths.{are_some_parents, directory_of}, StepsBetween.{text_steps_by_text}}
 use Rattle.iref_path.proofs.ClimbLemmas.{all_parents, climb-last, kept-read}
 use Rattle.iref_path.proofs.DotlessLemmas.{all_stay, dotless_name, none_in_front, none_open, normal_segments-dotless, whole_text}
@@ -22,7 +22,7 @@ no_parents : (n : ℕ) (f : Text) (front : List Text) → begins_with_dot f ≡ 
 no_parents zero f front h = grind (arith, dotless_name f, name_no_parent f)
 no_parents (suc n) f front h = grind (arith, all_parents n (f ∷ front), dotless_name f, name_no_parent f)
 
-no_climb : (up : ℕ) (text : Text) → is_empty text ≡ false → has_dot_segment text ≡ false → (s : Text) (rest : List Text) → pieces_at slash text ≡ s ∷ rest → is_climb (replicate up (codes "..") ++ s ∷ rest) ≡ false
+no_climb : (up : ℕ) (text : Text) → is_empty text ≡ false → has_dotted_segment text ≡ false → (s : Text) (rest : List Text) → pieces_at slash text ≡ s ∷ rest → is_climb (replicate up (codes "..") ++ s ∷ rest) ≡ false
 no_climb up text some dotless s [] e =
     let whole = join-pieces_at slash text in
     grind (arith, climb-last (replicate up (codes "..") ++ s ∷ []) (replicate up (codes "..")) s refl)
@@ -37,7 +37,7 @@ no_lone : (up : ℕ) (c : ℕ) (cs : Text) → is_one_empty (replicate up (codes
 no_lone zero c cs = whole_text c cs
 no_lone (suc up) c cs = refl
 
-pub shortened-some : (up : ℕ) (text : Text) → is_empty text ≡ false → has_dot_segment text ≡ false → shortened (replicate up (codes "..") ++ pieces_at slash text) ≡ replicate up (codes "..") ++ pieces_at slash text
+pub shortened-some : (up : ℕ) (text : Text) → is_empty text ≡ false → has_dotted_segment text ≡ false → shortened (replicate up (codes "..") ++ pieces_at slash text) ≡ replicate up (codes "..") ++ pieces_at slash text
 shortened-some up [] some h = absurd (let f : true ≡ false = some in cc)
 shortened-some up (c ∷ cs) some h =
     let piece = some_piece slash (c ∷ cs) in
@@ -77,12 +77,12 @@ dotless_parents (s ∷ list) h = grind (arith, common_steps, dotless_name s, nam
 dotless_kept : (absolute : Bool) (list : List Text) → is_some_dotted list ≡ false → kept_segments (record { absolute = absolute; segments = list }) ≡ list
 dotless_kept absolute list h = rw (kept-read absolute list, none_open list h, all_stay list h) (grind arith)
 
-dotless_directory : (absolute : Bool) (text : Text) → has_dot_segment text ≡ false → kept_segments (record { absolute = absolute; segments = all_but_last (segments_of text) }) ≡ all_but_last (pieces_at slash text)
+dotless_directory : (absolute : Bool) (text : Text) → has_dotted_segment text ≡ false → kept_segments (record { absolute = absolute; segments = all_but_last (segments_of text) }) ≡ all_but_last (pieces_at slash text)
 dotless_directory absolute [] h = dotless_kept absolute [] refl
 dotless_directory absolute (c ∷ cs) h = dotless_kept absolute (all_but_last (pieces_at slash (c ∷ cs))) (none_in_front begins_with_dot (pieces_at slash (c ∷ cs)) h)
 
 -- the steps lead to the segments
-dotless_list : (absolute : Bool) (directory : List Text) (text : Text) → has_dot_segment text ≡ false
+dotless_list : (absolute : Bool) (directory : List Text) (text : Text) → has_dotted_segment text ≡ false
     → steps_by_text directory (pieces_at slash text) ≡ steps_by_text directory (normal_segments (record { absolute = absolute; segments = segments_of text }))
 dotless_list absolute directory [] h = grind (arith, normal_segments-dotless)
 dotless_list absolute directory (c ∷ cs) h = grind (arith, normal_segments-dotless, whole_text)
@@ -132,7 +132,7 @@ module _ (has_authority absolute rooted : Bool) (below rest : Text) (base path :
       by true false h = cc
       by false true h = cc
 
-  module _ (h : has_dot_segment below ≡ false) (k : has_dot_segment rest ≡ false) where
+  module _ (h : has_dotted_segment below ≡ false) (k : has_dotted_segment rest ≡ false) where
     kept_is : kept_segments directory ≡ all_but_last (pieces_at slash below)
     kept_is = ap (λ (q : PathValue). kept_segments (record { absolute = flag; segments = all_but_last q.segments })) b ∙ dotless_directory flag below h
 

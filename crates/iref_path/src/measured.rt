@@ -4,7 +4,7 @@ ghost use Rattle.std.specs.Prelude.{◌||◌, ◌&&◌, ◌≡◌, ◌+◌, ◌*
 ghost use Rattle.std.specs.{Prelude.{length, replicate, true, ℕ}, Fmt.{WritesOnOk}};
 ghost use Rattle.iref_grammar.specs.{alone, slash, read_path, spell_path, is_empty, Texts.{pieces_at}};
 ghost use Rattle.iref_grammar.specs.{Guard.{guarded}, PathSteps.{normalized}};
-ghost use Rattle.iref_parse.specs.Dots.{has_dot_segment};
+ghost use Rattle.iref_parse.specs.Dots.{has_dotted_segment};
 ghost use Rattle.iref_path.specs.Bodies.{after_front, parents_then};
 ghost use Rattle.iref_path.specs.MergedPaths.{merged_list, merged_path, path_after};
 ghost use Rattle.iref_path.specs.{MeasuredPaths.{IsMeasured, measured_text}, Pieces.{pieces_if_some}};
@@ -52,7 +52,7 @@ fn is_merged_absolute(has_authority: bool, absolute: bool, segments: Option<&str
 // Whether a segment of the two texts begins with a dot.
 #[tactic(auto, using(crate::proofs::DotlessLemmas::both_dotted))]
 fn have_dots(front: Option<&str>, back: &str) -> bool
-    ensures { result ≡ has_dot_segment (after_front front.entry back.now) }
+    ensures { result ≡ has_dotted_segment (after_front front.entry back.now) }
 {
     match front {
         Some(front) => has_dots(front.as_bytes()) | has_dots(back.as_bytes()),
@@ -154,7 +154,7 @@ impl<'a> MeasuredPath<'a> {
 
     // The text of segments of which none begins with a dot: they stay as they are.
     fn dotless(context: PathContext, absolute: bool, front: Option<&'a str>, back: &'a str) -> Self
-        requires dotless { has_dot_segment (after_front front back.now) ≡ false }
+        requires dotless { has_dotted_segment (after_front front back.now) ≡ false }
         requires room { length (after_front front back.now) + 3 < 2 ^ 64 }
         ensures text { measured_text result ≡ spell_path
             (normalized context (merged_path absolute front.entry (Some back.entry))) }

@@ -6,7 +6,7 @@ ghost use Rattle.std.specs.Prelude.{false};
 ghost use Rattle.iref_grammar.specs.{slash, Texts.{all_but_last, pieces_at}};
 ghost use Rattle.iref_grammar.specs.{normal_segments, read_path, Relative.{directory_names, steps_between}};
 ghost use Rattle.iref_grammar.specs.NormalList.{kept_segments};
-ghost use Rattle.iref_parse.specs.Dots.{has_dot_segment};
+ghost use Rattle.iref_parse.specs.Dots.{has_dotted_segment};
 ghost use Rattle.iref_path.specs.{NormalItems.{IsSound, first_or, normal_left}, Spelling.{each_closed}};
 ghost use Rattle.iref_path.specs.ShortestPaths.{directory_at};
 ghost use Rattle.iref_path.specs.StepsBetween.{steps_with, text_steps, text_steps_with, with_last};
@@ -22,7 +22,7 @@ fn behind_first<'a, S: Sameness>(base: &'a str, path: &'a str) -> Option<(&'a st
     ensures steps { IfSome result (λ left. text_steps_with S.same left.0.now left.1.now
         ≡ text_steps_with S.same base.now path.now) }
     ensures dotless { IfSome result (λ left.
-        has_dot_segment path.now ≡ false → has_dot_segment left.1.now ≡ false) }
+        has_dotted_segment path.now ≡ false → has_dotted_segment left.1.now ≡ false) }
     ensures base { IfSome result (λ left. length left.0.now < length base.now) }
     ensures path { IfSome result (λ left. length left.1.now ≤ length path.now) }
     ensures apart { IfNone result (text_steps_with S.same base.now path.now
@@ -50,8 +50,8 @@ fn behind_first<'a, S: Sameness>(base: &'a str, path: &'a str) -> Option<(&'a st
 pub(crate) fn steps_apart<'a, S: Sameness>(mut base: &'a str, mut path: &'a str) -> (usize, &'a str)
     ensures steps { text_steps_with S.same base.entry.now path.entry.now
         ≡ replicate result.0 (codes "..") ++ pieces_at slash result.1.now }
-    ensures dotless { has_dot_segment path.entry.now ≡ false
-        → has_dot_segment result.1.now ≡ false }
+    ensures dotless { has_dotted_segment path.entry.now ≡ false
+        → has_dotted_segment result.1.now ≡ false }
     ensures up { result.0 ≤ length base.entry.now }
     ensures down { length result.1.now ≤ length path.entry.now }
 {

@@ -6,7 +6,7 @@ ghost use Rattle.std.specs.Prelude.{false, is_some, length, nat_le, replicate};
 ghost use Rattle.iref_grammar.specs.{slash, alone, read_path, spell_path, segments_of};
 ghost use Rattle.iref_grammar.specs.Texts.{all_but_last, is_empty, pieces_at};
 ghost use Rattle.iref_grammar.specs.{Guard.{guarded}, normal_segments, NormalList.{count_parents, kept_segments}};
-ghost use Rattle.iref_parse.specs.Dots.{has_dot_segment};
+ghost use Rattle.iref_parse.specs.Dots.{has_dotted_segment};
 ghost use Rattle.iref_path.specs.MeasuredPaths.{IsMeasured, measured_text};
 ghost use Rattle.iref_path.specs.{NormalItems.{IsSound, normal_left}, Spelling.{each_closed}};
 ghost use Rattle.iref_path.specs.ShortestPaths.{directory_at, directory_of};
@@ -25,7 +25,7 @@ use iref_parse::dots::has_dots;
 // shortened: `..` stands for `../`, and `.` for the empty segment alone.
 #[tactic(auto, using(crate::proofs::TextStepLemmas::ends))]
 fn of_text_steps(up: usize, path: &str) -> MeasuredPath<'_>
-    requires dotless { has_dot_segment path.now ≡ false }
+    requires dotless { has_dotted_segment path.now ≡ false }
     requires room { 3 * up + length path.now + 8 < 2 ^ 64 }
     ensures text { measured_text result ≡ spell_path (guarded alone (record {
       absolute = false;

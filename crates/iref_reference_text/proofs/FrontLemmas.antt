@@ -12,7 +12,7 @@ use Rattle.iref_grammar.proofs.{PathLemmas.{lacks-segments_of, read_path-reads},
 use Rattle.iref_grammar.specs.{NormalList.{closed, normal}, PathFunctions.{directory}, PathSteps.{normalized}}
 use Rattle.iref_grammar.specs.{ReferenceParts.{base_of}, Resolution.{resolved}}
 use Rattle.iref_grammar.proofs.PieceLemmas.{some_piece}
-use Rattle.iref_parse.specs.Dots.{has_dot_segment, is_some_dotted}
+use Rattle.iref_parse.specs.Dots.{has_dotted_segment, is_some_dotted}
 use Rattle.iref_path.specs.MergedPaths.{path_after}
 use Rattle.iref_path.proofs.DotlessLemmas.{both_dotted, dotless-spelled, normal_segments-dotless}
 use Rattle.iref_path.proofs.SlashLemmas.{read-absolute}
@@ -24,7 +24,7 @@ use Rattle.iref_reference_text.proofs.{LengthLemmas.{path_after-texts}, Measured
 -- ---- an absolute list after an authority
 
 -- where no segment begins with a dot, its text spells the normalized path
-rooted : (context : PathContext) (text : Text) → context.has_authority ≡ true → has_dot_segment text ≡ false
+rooted : (context : PathContext) (text : Text) → context.has_authority ≡ true → has_dotted_segment text ≡ false
     → slash ∷ text ≡ spell_path (normalized context (record { absolute = true; segments = pieces_at slash text }))
 rooted context text h k =
     let some = some_piece slash text in
@@ -41,7 +41,7 @@ absolute_text : (path : Text) → (read_path path).absolute ≡ true → path �
 unfolding spell_path
 absolute_text path e = grind (arith, read_path-reads path)
 
-absolute-stays : (context : PathContext) (base path : Text) → context.has_authority ≡ true → (read_path path).absolute ≡ true → has_dot_segment path ≡ false
+absolute-stays : (context : PathContext) (base path : Text) → context.has_authority ≡ true → (read_path path).absolute ≡ true → has_dotted_segment path ≡ false
     → path ≡ spell_path (normalized context (path_after true (read_path base) (read_path path)))
 absolute-stays context base path k e h =
     let rest = join_with_byte slash (read_path path).segments in
@@ -69,12 +69,12 @@ front_dotless (s ∷ rest) more h k = grind (arith, front_dotless rest more)
 after_segments : (list : List Text) (p : PathValue) → p.absolute ≡ false → record { absolute = true; segments = all_but_last list ++ p.segments } ≡ path_after true (record { absolute = true; segments = list }) p
 after_segments list p e = grind arith
 
-none_dotted : (text : Text) → has_dot_segment text ≡ false → is_some_dotted (segments_of text) ≡ false
+none_dotted : (text : Text) → has_dotted_segment text ≡ false → is_some_dotted (segments_of text) ≡ false
 none_dotted text h = grind arith
 
 -- the directory of an absolute base stays before it
-relative-stays : (context : PathContext) (base path : Text) → context.has_authority ≡ true → (read_path base).absolute ≡ true → has_dot_segment base ≡ false
-    → path ≢ [] → (read_path path).absolute ≡ false → has_dot_segment path ≡ false
+relative-stays : (context : PathContext) (base path : Text) → context.has_authority ≡ true → (read_path base).absolute ≡ true → has_dotted_segment base ≡ false
+    → path ≢ [] → (read_path path).absolute ≡ false → has_dotted_segment path ≡ false
     → spell_path (directory (read_path base)) ++ path ≡ spell_path (normalized context (path_after true (read_path base) (read_path path)))
 unfolding directory spell_path
 relative-stays context base path has absolute h some relative k =
@@ -93,7 +93,7 @@ pub before_path : (t : ComponentTexts) → take (lengths_before (lengths_of_text
 unfolding spell
 before_path t = grind (arith, common_steps, path_after-texts t, authority_spelled, taken)
 
-module _ (t : ComponentTexts) (authority : is_some t.authority ≡ true) (path : Text) (dotless : has_dot_segment path ≡ false) where
+module _ (t : ComponentTexts) (authority : is_some t.authority ≡ true) (path : Text) (dotless : has_dotted_segment path ≡ false) where
   abbrev context : PathContext
   context = record { has_scheme = is_some t.scheme; has_authority = is_some t.authority }
 
@@ -108,7 +108,7 @@ module _ (t : ComponentTexts) (authority : is_some t.authority ≡ true) (path :
   before_absolute e = grind (arith, common_steps, before_path t, absolute-stays context t.path path authority e dotless)
 
   -- or where its directory ends
-  pub before_relative : (read_path t.path).absolute ≡ true → has_dot_segment t.path ≡ false → path ≢ [] → (read_path path).absolute ≡ false → StaysBefore t path (spell (base_of (read_components t)))
+  pub before_relative : (read_path t.path).absolute ≡ true → has_dotted_segment t.path ≡ false → path ≢ [] → (read_path path).absolute ≡ false → StaysBefore t path (spell (base_of (read_components t)))
   unfolding spell base_of
   before_relative absolute h some relative = grind (arith, common_steps, authority_spelled, append_assoc, append-nil, relative-stays context t.path path authority absolute h some relative dotless)
 
