@@ -81,7 +81,8 @@ impl From<Memory> for ExpandFault {
 pub struct Compact<'a> {
     /// The label of an entry.
     pub label: &'a str,
-    /// What follows the entry's IRI.
+    /// What follows the entry's IRI, with no escapes of a language: Turtle writes `ex:a\/b` where
+    /// the rest is `a/b`.
     pub rest: &'a str,
 }
 

@@ -34,8 +34,8 @@ pub enum Edit<'a, C: CharSet> {
     SetPort(Option<Port<'a>>),
     /// Sets the port to a number, which is written in decimal digits without leading zeros.
     SetPortU32(Option<u32>),
-    /// Replaces the path, made absolute after an authority, and guarded where it would be read as
-    /// something else.
+    /// Replaces the path. One with segments is made absolute after an authority, and guarded where
+    /// it would be read as something else.
     SetPath(Path<'a, C>),
     /// Sets the path and normalizes it, as one edit (RFC 3986 section 5.2.4).
     SetAndNormalizePath(Path<'a, C>),

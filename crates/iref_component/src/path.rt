@@ -91,7 +91,8 @@ impl<S: Storage, C: CharSet> RuleText<S, PathRule, C> {
 
     /// What is left of the path after a prefix, as a relative path: of `/foo/bar` after `/foo` it
     /// is `bar`, of `//foo` after `/` it is `.//foo`. None where the normal segments of the prefix
-    /// are not a beginning of the path's, after decoding, or where only one of both is absolute.
+    /// are not a beginning of the path's, after decoding, or where only one of both is absolute. A
+    /// prefix that ends in `/` has an empty segment last: of `/foo/bar` after `/foo/` it is None.
     /// Out of memory, it returns `Memory`, but None takes no memory.
     pub fn suffix(&self, alloc: Global, prefix: Path<'_, C>) -> Result<Option<PathBuf<C>>, Memory>
         ensures suffix { IfOk result
@@ -177,7 +178,8 @@ impl<'a, C: CharSet> Path<'a, C> {
         self.segments().next_back()
     }
 
-    /// The last segment unless it is empty: of `/a/b`, `b`; of `a/`, None.
+    /// The last segment unless it is empty: of `/a/b`, `b`; of `a/`, None; of `/a/..`, `..`. It may
+    /// hold escapes, and is no safe name for a file.
     #[tactic(auto, unfolding(iref_grammar::specs::PathFunctions::file_name))]
     pub fn file_name(&self) -> Option<Segment<'a, C>>
         ensures { option_map text_of result ≡ function.file_name (path_value self.now) }
@@ -195,8 +197,8 @@ impl<'a, C: CharSet> Path<'a, C> {
         Path::new_unchecked(directory_text::<C>(self.as_str()))
     }
 
-    /// The path without its last segment, but for the empty path and one relative segment: of
-    /// `/a/b`, `/a`; of `a`, None.
+    /// The path without its last segment: of `/a/b`, `/a`. None of a path without segments, and of
+    /// one relative segment: of `/` and of `a`.
     pub fn parent(&self) -> Option<Self>
         ensures { option_map path_value result ≡ function.parent (path_value self.now) }
     {

@@ -77,7 +77,8 @@ impl<C: CharSet> PathBuf<C> {
         self.as_path().last()
     }
 
-    /// The last segment unless it is empty: of `/a/b`, `b`; of `a/`, None.
+    /// The last segment unless it is empty: of `/a/b`, `b`; of `a/`, None; of `/a/..`, `..`. It may
+    /// hold escapes, and is no safe name for a file.
     pub fn file_name(&self) -> Option<Segment<'_, C>>
         ensures { option_map text_of result ≡ function.file_name (path_value self.now) }
     {
@@ -93,8 +94,8 @@ impl<C: CharSet> PathBuf<C> {
         self.as_path().directory()
     }
 
-    /// The path without its last segment, but for the empty path and one relative segment: of
-    /// `/a/b`, `/a`; of `a`, None.
+    /// The path without its last segment: of `/a/b`, `/a`. None of a path without segments, and of
+    /// one relative segment: of `/` and of `a`.
     pub fn parent(&self) -> Option<Path<'_, C>>
         ensures { option_map path_value result ≡ function.parent (path_value self.now) }
     {
@@ -234,10 +235,11 @@ impl<C: CharSet> PathBuf<C> {
         self.as_path_mut().lazy_append(segments)
     }
 
-    /// Appends each segment as `push` does, and closes the path after a last `.` or `..`: `..` and
-    /// `baz` after `/foo/bar` give `/foo/baz`. The iterator is asked up to its first `None`. Out of
-    /// memory, it returns `Memory`: the segments before the refused one stand, and the path is not
-    /// closed.
+    /// Follows each segment: `.` does nothing, `..` does as `pop` does, and another is appended. After
+    /// a last `.` or `..` it closes the path, as `push` does after each: `..` and `baz` after
+    /// `/foo/bar` give `/foo/baz`, where pushing both gives `/foo//baz`. The iterator is asked up to
+    /// its first `None`. Out of memory, it returns `Memory`: the segments before the refused one
+    /// stand, and the path is not closed.
     pub fn append<'s, I>(&mut self, segments: I) -> Result<(), Memory>
     where
         I: IntoIterator<Item = Segment<'s, C>>,
@@ -259,7 +261,8 @@ impl<C: CharSet> PathBuf<C> {
     }
 
     /// The path that pushing these segments one by one on the empty or the absolute path gives:
-    /// absolute and `a`, `b`, `..` is `/a/`. Out of memory, it returns `Memory`.
+    /// absolute and `a`, `b`, `..` is `/a/`. A segment behind `.` or `..` comes after the `/` that
+    /// closes the path: `a`, `b`, `..` and `c` are `/a//c`. Out of memory, it returns `Memory`.
     pub fn from_segments<'s, I: IntoIterator<Item = Segment<'s, C>> + Drop>(
         alloc: Global,
         absolute: bool,

@@ -240,10 +240,11 @@ impl<'a, C: CharSet, T: Target<PathPart, C>> PathMut<'a, C, T> {
         Ok(())
     }
 
-    /// Appends each segment as `push` does, and closes the path after a last `.` or `..`: `..` and
-    /// `baz` after `/foo/bar` give `/foo/baz`. The iterator is asked up to its first `None`. Out of
-    /// memory, it returns `Memory`: the segments before the refused one stand, and the path is not
-    /// closed.
+    /// Follows each segment: `.` does nothing, `..` does as `pop` does, and another is appended. After
+    /// a last `.` or `..` it closes the path, as `push` does after each: `..` and `baz` after
+    /// `/foo/bar` give `/foo/baz`, where pushing both gives `/foo//baz`. The iterator is asked up to
+    /// its first `None`. Out of memory, it returns `Memory`: the segments before the refused one
+    /// stand, and the path is not closed.
     pub fn append<'s, I>(&mut self, segments: I) -> Result<(), Memory>
     where
         I: IntoIterator<Item = Segment<'s, C>>,
@@ -471,7 +472,7 @@ impl<'a, C: CharSet> PathMut<'a, C, PathBuf<C>> {
 
     /// The editor of a path, with what it is to stand after: `push` with `1:2` turns the empty path
     /// into `/1:2` after an authority, into `1:2` after a scheme alone, and into `./1:2` after
-    /// neither.
+    /// neither. After an authority the path has to be empty or to begin with `/`.
     pub fn from_path_with_context(path: &'a mut PathBuf<C>, context: PathContext) -> Self
         requires { follows_authority context (path_value path.old) ≡ true }
         ensures same_reference { Borrows result path.entry.ghost_name }

@@ -23,7 +23,9 @@ impl<'a, R: HeldRule, C: CharSet> Reference<'a, R, C> {
     /// The reference of the canonical text, which a text comparison finds equal where `==` does: of
     /// `HTTP://a/%7Eb/./c`, `http://a/~b/c`. It equals this one, and of an IRI it is a URI. The
     /// scheme is in lower case (RFC 3986 section 6.2.2.1), dot segments are removed (6.2.2.3), and
-    /// each escape is decoded where its component may hold the character. Hosts keep their case.
+    /// each escape is decoded where its component may hold the character, but in a segment that
+    /// would become `.` or `..`: `/%2E` stays. Hosts keep their case, and one of escapes may become
+    /// an address: `//%5B%3A%3A1%5D` becomes `//[::1]`.
     ///
     /// It is for comparison. Resolve first, and take the canonical text of the result: of `.` it is
     /// the empty text and of `%2E%2E/x` it is `../x`, which resolve to other URIs.

@@ -85,8 +85,8 @@ impl<'a, R: HeldRule, C: CharSet> Reference<'a, R, C> {
 
     /// What is left of the reference after a prefix: of `http://a/b/c?q#f` after `http://a/b?r` it
     /// is the path `c`, with the query `q` and the fragment `f`. None where scheme or authority
-    /// differ, or the path has no such rest; that takes no memory. Out of memory, it returns
-    /// `Memory`.
+    /// differ, or the path has no such rest, as that of `/foo/bar` after `/foo/`, which ends in an
+    /// empty segment; that takes no memory. Out of memory, it returns `Memory`.
     pub fn suffix(
         &self,
         alloc: Global,

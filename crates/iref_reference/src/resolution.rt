@@ -48,11 +48,11 @@ fn resolved_uri<C: CharSet>(
 impl<R: HeldRule, C: CharSet> Reference<'_, R, C> {
     /// What the reference resolves to against a base (RFC 3986 section 5.2, strict): `../g` and
     /// `http://a/b/c` give `http://a/g`. A reference without a path keeps the base's as it stands.
-    /// Else the path becomes normal, as by `normalized`. Section 5.2.4 differs where the path does
-    /// not begin with `/`: here `../x` and `s:a` give `s:../x`, and `x/..` and `s:a` give `s:`. And
-    /// a segment `.` may stand first: `../..//` and `http:/a/b` give `http:/.//`. Where dot segments
-    /// are removed, the result may hold room that it does not need. Out of memory, it returns
-    /// `Memory`.
+    /// Else its own path, or the one merged with the base's, becomes normal, as by `normalized`.
+    /// Section 5.2.4 differs where that does not begin with `/`: here `../x` and `s:a` give
+    /// `s:../x`, and `x/..` and `s:a` give `s:`. And a segment `.` may stand first: `../..//` and
+    /// `http:/a/b` give `http:/.//`. Where dot segments are removed, the result may hold room that
+    /// it does not need. Out of memory, it returns `Memory`.
     pub fn resolved(&self, alloc: Global, base: Uri<'_, C>) -> Result<UriBuf<C>, Memory>
         ensures { IfOk result (λ uri. IsResolved (reference_text base.entry)
             (reference_text self.now) (reference_buf_text uri)) }
