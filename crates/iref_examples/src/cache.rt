@@ -1,5 +1,6 @@
 //! A cache over a map of std, whose keys are canonical texts of URIs: two spellings of one URI find
-//! one entry, such as `HTTP://a/%7Eb/./c` and `http://a/~b/c`.
+//! one entry, such as `HTTP://a/%7Eb/./c` and `http://a/~b/c`. So do `?a%26b` and `?a&b`, which
+//! servers tell apart: it is not for their responses.
 ghost use Rattle.std.specs.{Prelude.{◌≡◌, None, IfOk, IsOk, OnErr, OnOk}, Option.{option_copied}};
 ghost use Rattle.iref.specs.{Canonical.{canonical_text}, Key.{key}, Reference.{ReferenceValue}};
 ghost use Rattle.iref.specs.References.{reference_text, reference_value};

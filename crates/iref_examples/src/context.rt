@@ -1,6 +1,7 @@
 //! A context of prefixes, as in JSON-LD: IRIs made short, such as `schema:name` for
 //! `https://schema.org/name`, and texts of a document read by terms, prefixes, `@vocab` and `@base`
-//! (JSON-LD 1.1 Processing Algorithms and API, section 5.2).
+//! (JSON-LD 1.1 Processing Algorithms and API, section 5.2). Keywords, as `@type`, are left to the
+//! caller, and each term serves as a prefix, whatever its IRI ends in.
 ghost use Rattle.std.specs.{Prelude.{◌≡◌, Ok, IfOk, IfErr, IfSome, option_map}, String.{string_bytes}};
 ghost use Rattle.iref.specs.{PrefixTable.{compact_text, compacted, expanded}, Prefixes.{RefusesExpand}};
 ghost use Rattle.iref.specs.{References.{reference_buf_text, reference_text}, Grammar.{colon}, Texts.{after}};
@@ -15,7 +16,8 @@ use std::alloc::Global;
 
 /// The IRI made short by its longest prefix, the first one given on a tie: with `schema` for
 /// `https://schema.org/`, `https://schema.org/name` becomes `schema:name`. None where it begins
-/// with no prefix. What was made short expands to the IRI. Out of memory, it returns `Memory`.
+/// with no prefix. `Prefixes::expand` gives the IRI of what was made short, and so do `named` and
+/// `located`, unless `//` follows the colon or the label is `_`. Out of memory, it returns `Memory`.
 pub fn shortened(alloc: Global, context: &Prefixes, iri: Iri<'_>) -> Result<Option<String>, Memory>
     ensures longest { IfOk result (λ short. option_map string_bytes short
         ≡ option_map compact_text (compacted (reference_text iri.entry) context.now.entries)) }
