@@ -11,10 +11,10 @@ use Rattle.iref_batch.specs.Gathering.{IsLine, IsNothing, Holds, Writes, WritesP
 use Rattle.iref_batch.proofs.OutputLemmas.{lines_of-cut}
 use Rattle.iref_batch.proofs.SeenLemmas.{ended_lines_of_seen, lines_of_all_seen, lines_of_line, lines_of_more, lines_of_seen, no_byte}
 
-answers : List Text → List Text
+pub answers : List Text → List Text
 answers lines = map (λ line. line_reply line) lines
 
-answers-are_replies : (lines : List Text) → AllZip IsReply lines (answers lines)
+pub answers-are_replies : (lines : List Text) → AllZip IsReply lines (answers lines)
 unfolding answers
 answers-are_replies [] = tt
 answers-are_replies (line ∷ lines) = (inl refl, answers-are_replies lines)
