@@ -2,7 +2,7 @@
  * Answers lines by the calls of iref.h, as the program iref_cli does: fields between TABs, of the verbs parts, normal,
  * equal, resolve, relative and to-uri. With the argument `check` it looks at the calls themselves instead of answering,
  * over the same lines, and says what is wrong: buffers too short by one, bytes that are not UTF-8, lengths of zero, and
- * whether equality, order, hash, canonical texts, sort keys and ranges of them agree, and faults with the rules.
+ * whether equality, order, hash, canonical texts and sort keys agree, and faults with the rules.
  */
 #define _POSIX_C_SOURCE 200809L
 #include "iref.h"
@@ -358,75 +358,6 @@ static void check_long(void) {
     check(&text, 1);
 }
 
-/* Whether the sort key of a reference stands in the range of another. */
-static int is_below(struct text reference, struct text other) {
-    char key[64], range[64];
-    size_t length = 0, end = 0;
-    expect(sort_key(&reference, key, sizeof key, &length) == IREF_OK, "a sort key is not written", reference);
-    expect(sort_range(&other, range, sizeof range, &end) == IREF_OK, "a range is not written", other);
-    struct text sorted = {key, length};
-    int is_in = order_of(sorted, (struct text){range, end - 1}) >= 0 && order_of(sorted, (struct text){range, end}) < 0;
-    expect(is_in == (length >= end - 1 && memcmp(key, range, end - 1) == 0), "a key in a range begins otherwise", reference);
-    return is_in;
-}
-
-/* The shortest references that resolve to a text: target, base, reference, which is NULL where there is none. */
-static void check_shortest(void) {
-    static const char *const ROWS[][3] = {{"http://a/b/c/g", "http://a/b/c/d;p?q", "g"},
-                                          {"http://a/b/c/d;p?q", "http://a/b/c/d;p?q", ""},
-                                          {"http://a/b/c/d;p?y", "http://a/b/c/d;p?q", "?y"},
-                                          {"http://a/", "http://a/b/c/d;p?q", "/"},
-                                          {"http://g/x", "http://a/b/c/d;p?q", "//g/x"},
-                                          {"http://a/%7Eb/c", "http://a/~b/d", "/%7Eb/c"},
-                                          {"http://a/x/../b?r", "http://a/x/../b?q", "?r"},
-                                          {"http://a/x/../b", "http://a/c", NULL},
-                                          {"http://h/a/..", "http://h/b", NULL}};
-    for (size_t i = 0; i < sizeof ROWS / sizeof *ROWS; i++) {
-        struct text texts[] = {{ROWS[i][0], strlen(ROWS[i][0])}, {ROWS[i][1], strlen(ROWS[i][1])}};
-        char out[64];
-        size_t needed = 0;
-        uint32_t status = shortest(texts, out, sizeof out, &needed);
-        if (ROWS[i][2])
-            expect(status == IREF_OK && is_text((struct text){out, needed}, ROWS[i][2]), "another reference", texts[0]);
-        else
-            expect(status == IREF_NONE && needed == 0, "a reference where there is none", texts[0]);
-    }
-}
-
-/* What is below a reference and what is not. */
-static void check_below(void) {
-    static const char *const BELOW[] = {"http://h/docs", "http://h/docs/a", "http://h/docs?q", "HTTP://h/x/../docs/"};
-    static const char *const OTHERS[] = {"http://h/docsx", "http://h/doc", "http://h/", "http://i/docs/a", "/docs/a", ""};
-    struct text docs = {"http://h/docs", 13};
-    for (size_t i = 0; i < sizeof BELOW / sizeof *BELOW; i++) {
-        struct text text = {BELOW[i], strlen(BELOW[i])};
-        expect(is_below(text, docs), "it is below http://h/docs", text);
-    }
-    for (size_t i = 0; i < sizeof OTHERS / sizeof *OTHERS; i++) {
-        struct text text = {OTHERS[i], strlen(OTHERS[i])};
-        expect(!is_below(text, docs), "it is not below http://h/docs", text);
-    }
-    struct text host = {"http://h", 8}, root = {"http://h/", 9};
-    expect(is_below(docs, root) && !is_below(docs, host), "all with an absolute path is below the root alone", docs);
-}
-
-/* A canonical text, a sort key and two places that are known. */
-static void check_known(void) {
-    static const char KEY[] = "\1http\0\1\0a\0\0\1\1~b\0\1c\0\0\0";
-    struct text text = {"HTTP://a/%7Eb/./c", 17}, port = {"http://h:8x0/", 13}, bytes = {"a\xC3", 2};
-    struct iref_place place;
-    char out[64];
-    size_t needed = 0;
-    canonical(&text, out, sizeof out, &needed);
-    expect(is_text((struct text){out, needed}, "http://a/~b/c"), "a canonical text is wrong", text);
-    sort_key(&text, out, sizeof out, &needed);
-    expect(needed == sizeof KEY && memcmp(out, KEY, needed) == 0, "a sort key is wrong", text);
-    iref_fault(port.at, port.length, &place);
-    expect(place.what == IREF_PORT && place.at == 10, "a place is wrong", port);
-    iref_fault(bytes.at, bytes.length, &place);
-    expect(place.what == IREF_NOT_UTF8 && place.at == 1, "a place of bytes is wrong", bytes);
-}
-
 /* Bytes that are not UTF-8 are refused by every call, and the empty text is a reference. */
 static void check_bytes(void) {
     static const char *const NOT_UTF8[] = {"\xFF", "a\xC3", "\xC0\xAF", "http://a/\xED\xA0\x80", "\x80"};
@@ -445,9 +376,6 @@ static void check_bytes(void) {
         status = iref_hash_keyed(texts[0].at, texts[0].length, 1, 2, &hash);
         expect(status == IREF_INVALID && hash == 7, "bytes that are not UTF-8 are hashed under keys", texts[0]);
     }
-    check_known();
-    check_below();
-    check_shortest();
     check(&empty, 1);
     expect(iref_hash(empty.at, empty.length, &hash) == IREF_OK, "the empty text is no reference", empty);
 }
