@@ -1,7 +1,7 @@
 -- What a job has written for a line, and for files.
 use Rattle.std.proofs.Common.{◌≡◌, ◌+◌, ◌<◌, ◌≤◌, ℕ, Bool, true, false, List, [], ◌∷◌, ◌++◌, Option, Some, None, IfSome, OnOk, Result, ap, arith, fold, length, map, max, option_map, refl, slice_index_or, subst, sym, take, ◌∙◌, inl, inr, append-nil}
 use Rattle.std.proofs.{lemmas.Grind.{common_steps}, lemmas.List.{map-append}, lemmas.List.Sums.{fold-append}}
-use Rattle.std.proofs.{KnownBytes.{Appends-trans}, lemmas.Grind.{flat_map-append}}
+use Rattle.std.proofs.{KnownBytes.{Appends-kept, Appends-trans}, lemmas.Grind.{flat_map-append}}
 use Rattle.std.specs.{Borrow.{Bor}, Fmt.{with_newline as with_end}, Io.KnownBytes.{Appends, Keeps}}
 use Rattle.iref.specs.Rules.{Text}
 use Rattle.iref_batch.specs.{Gathering.{Gains, Writes}, Runs.{with_newline, with_newlines}, Statuses.{number_of}, StdStreams.{inner_of}}
@@ -154,17 +154,11 @@ module _ {R : Type 0} (text : R → Text) (lines : List R) (i : ℕ) where
       sym (ap with_newlines (map-append text (take i lines) (last ∷ [])) ∙ flat_map-append with_newline (map text (take i lines)) (text last ∷ []) ∙ ap (λ t. with_newlines (map text (take i lines)) ++ t) (append-nil (with_newline (text last)))) in
       subst (λ l. Appends a d (with_newlines (map text l))) taken (subst (Appends a d) written (Appends-trans a b d _ _ f (Appends-trans b c d _ _ (subst (Appends b c) is g) h)))
 
-  appends_kept : (a b c : Option Text) (bytes : Text) → Appends a b bytes → Keeps b c → Appends a c bytes
-  appends_kept None b c bytes f k = tt
-  appends_kept (Some x) None c bytes f k = absurd f
-  appends_kept (Some x) (Some y) None bytes f k = absurd k
-  appends_kept (Some x) (Some y) (Some z) bytes f k = k ∙ f
-
   -- all were written, and what was written is kept
   pub lines_written : length lines ≤ i → (a b c : Option Text) → Appends a b (with_newlines (map text (take i lines))) → Keeps b c → Appends a c (with_newlines (map text lines))
   lines_written over a b c f k =
       let all : take i lines ≡ lines = grind (arith, common_steps) in
-      subst (λ l. Appends a c (with_newlines (map text l))) all (appends_kept a b c _ f k)
+      subst (λ l. Appends a c (with_newlines (map text l))) all (Appends-kept a b c _ f k)
 
 -- what holds anyway holds where a call went well
 pub on_ok : {T E P : Type 0} (r : Result T E) → P → OnOk r P

@@ -5,7 +5,7 @@ use Rattle.std.specs.Io.KnownBytes.{Consumes, IsAtEnd, Keeps}
 use Rattle.iref.specs.{Rules.{Text}, Texts.{is_empty}}
 use Rattle.iref_batch.specs.{Gathering.{IsLine, IsNothing}, Lines.{lines_of}, Runs.{ended_lines, with_newline}, declared.{lines.Begun.{Begun}, status.Status.{Status}}}
 use Rattle.iref_batch.proofs.SeenLemmas.{ended_lines_of_seen, lines_of_all_seen, lines_of_seen, seen_line, seen_nothing, seen_part}
-use Rattle.iref_tool.specs.Streams.{IsGiven, GivesAll, GivesBeginning, GivesFile, GivesLine, GivesLines, InInput, OnReadError, ReadsMore, status_read}
+use Rattle.iref_tool.specs.Streams.{IsGiven, GivesAll, GivesBeginning, GivesFile, GivesLine, GivesLines, InInput, OnReadError, ReadsMore, file_status}
 use Rattle.iref_tool.specs.declared.input.{Failure.{Failure}, Failure.TheVariants.{Read, Write}}
 
 -- so far some text was read, and its lines were given
@@ -125,10 +125,10 @@ nothing_given none = ([], record { lines = []; are_given = tt; taken = none })
 
 module _ {T : Type 0} (given : T → List (Option Text) → T → Type 0) (both : (old mid new : T) (lines others : List (Option Text)) → given old lines mid → given mid others new → given old (lines ++ others) new) (old mid new : T) (none : given mid [] new) where
   -- a file was read, and no line was given since
-  file_given_by : (read : Result (Unit {0}) Failure) → OnOk read ((text : Text) × GivesLines given (lines_of text) old mid) → OnReadError read ((text : Text) × GivesLines given (ended_lines text) old mid) → IfSome (status_read read) (λ status. GivesFile given status old new)
+  file_given_by : (read : Result (Unit {0}) Failure) → OnOk read ((text : Text) × GivesLines given (lines_of text) old mid) → OnReadError read ((text : Text) × GivesLines given (ended_lines text) old mid) → IfSome (file_status read) (λ status. GivesFile given status old new)
   file_given_by (Ok done) lines cut = (lines.0, given_since given both (lines_of lines.0) old mid new none lines.1)
   file_given_by (Err Write) lines cut = tt
   file_given_by (Err (Read error)) lines cut = (cut.0, given_since given both (ended_lines cut.0) old mid new none cut.1)
 
-  pub file_given : (read : Result (Unit {0}) Failure) (status : Option Status) → status ≡ status_read read → OnOk read ((text : Text) × GivesLines given (lines_of text) old mid) → OnReadError read ((text : Text) × GivesLines given (ended_lines text) old mid) → IfSome status (λ s. GivesFile given s old new)
+  pub file_given : (read : Result (Unit {0}) Failure) (status : Option Status) → status ≡ file_status read → OnOk read ((text : Text) × GivesLines given (lines_of text) old mid) → OnReadError read ((text : Text) × GivesLines given (ended_lines text) old mid) → IfSome status (λ s. GivesFile given s old new)
   file_given read status is lines cut = rw is (file_given_by read lines cut)

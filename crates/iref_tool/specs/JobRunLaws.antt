@@ -45,7 +45,7 @@ if_both P Q R None more f p q = tt
 if_both P Q R (Some a) None f p q = tt
 if_both P Q R (Some a) (Some b) f p q = f a b p q
 
-Gains-both : (text more : Text) (a b c : Option Text) (gathered mid gathered_then : Text) → Gains text a b gathered mid → Gains more b c mid gathered_then → Gains (text ++ more) a c gathered gathered_then
+pub Gains-both : (text more : Text) (a b c : Option Text) (gathered mid gathered_then : Text) → Gains text a b gathered mid → Gains more b c mid gathered_then → Gains (text ++ more) a c gathered gathered_then
 Gains-both text more a b c gathered mid gathered_then f g xs e =
     let p = f xs e in
     let q = g (xs ++ p.0) p.1 in

@@ -61,7 +61,7 @@ GivesFile given Wrong old new = ⊥
 GivesFile given Misused old new = (text : Text) × GivesLines given (ended_lines text) old new
 
 -- the status of a file, by how reading it ended; none where a write has failed
-abbrev pub status_read : Result (Unit {0}) Failure → Option Status
-status_read (Ok _) = Some Well
-status_read (Err Write) = None
-status_read (Err (Read _)) = Some Misused
+abbrev pub file_status : Result (Unit {0}) Failure → Option Status
+file_status (Ok _) = Some Well
+file_status (Err Write) = None
+file_status (Err (Read _)) = Some Misused

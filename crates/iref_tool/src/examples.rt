@@ -9,8 +9,8 @@
 //! A line that is not UTF-8 is answered `error invalid`, but one of `fault` with where its reference
 //! is not: `fault<TAB>a` and the byte 255 by `not UTF-8 at byte 1`.
 
-ghost use Rattle.std.specs.Prelude.{◌≡◌, OnErr};
-ghost use Rattle.iref_tool.specs.Examples.{HaveSame};
+ghost use Rattle.std.specs.{Prelude.{◌≡◌, OnErr}, Option.{option_copied}};
+ghost use Rattle.iref_tool.specs.Examples.{HaveSame, is_of_examples, is_one_field};
 
 use iref::Memory;
 use iref::compact::{ExpandFault, PrefixFault, Prefixes};
@@ -172,19 +172,38 @@ fn answer_text(alloc: Global, tables: &mut Tables, line: &str) -> Result<String,
     }
 }
 
+// The verbs of the examples, but `expand`.
+const VERBS: [&[u8]; 10] = [
+    b"put",
+    b"get",
+    b"relink",
+    b"relativized",
+    b"prefix",
+    b"shorten",
+    b"check",
+    b"canonical",
+    b"key",
+    b"fault",
+];
+
+// Whether the fields behind a verb are one.
+fn is_one_field(fields: Option<&[u8]>) -> bool
+    ensures { result ≡ is_one_field (option_copied fields.entry) }
+{
+    match fields {
+        Some(fields) => !fields.contains(&b'\t'),
+        None => false,
+    }
+}
+
 /// Whether the line has a verb of the examples: `expand` has it with one field, and with more that
 /// of `iref_cli`.
-pub fn is_of_examples(line: &[u8]) -> bool {
+#[tactic(auto, unfolding(crate::specs::Examples::is_of_examples))]
+pub fn is_of_examples(line: &[u8]) -> bool
+    ensures { result ≡ is_of_examples line.now }
+{
     let (verb, fields) = cut_bytes(line, b'\t');
-    let Ok(verb) = str::from_utf8(verb) else {
-        return false;
-    };
-    match (verb, fields) {
-        ("expand", Some(fields)) => !fields.contains(&b'\t'),
-        ("put" | "get" | "relink" | "relativized" | "prefix" | "shorten", _) => true,
-        ("check" | "canonical" | "key" | "fault", _) => true,
-        _ => false,
-    }
+    VERBS.contains(&verb) || (verb == b"expand".as_slice() && is_one_field(fields))
 }
 
 /// The answer to a line with a verb of the examples. Out of memory, it leaves the cache and the

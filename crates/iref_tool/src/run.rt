@@ -4,7 +4,7 @@ ghost use Rattle.std.specs.{Io.KnownBytes.{Appends}, IoError.{error_kind}};
 ghost use Rattle.iref.specs.{References.{reference_text}, Rules.{Text}};
 ghost use Rattle.iref_batch.specs.{Lines.{lines_of}, Runs.{ended_lines, with_newlines}, StdStreams.{inner_of}};
 ghost use Rattle.iref_tool.specs.JobRuns.{DoesAll, TurnsWrong};
-ghost use Rattle.iref_tool.specs.Streams.{GivesFile, GivesLines, OnReadError, status_read};
+ghost use Rattle.iref_tool.specs.Streams.{GivesFile, GivesLines, OnReadError, file_status};
 
 use crate::examples::Tables;
 use crate::input::{Failure, TakesLines, each_line};
@@ -101,7 +101,7 @@ fn each_line_of<T: TakesLines>(rt: &HostRuntime, file: &str, to: &mut T) -> Resu
 
 // The status of a file, by how reading it ended. Says why it cannot be read.
 fn status_of_read(rt: &HostRuntime, file: &str, read: Result<(), Failure>) -> Option<Status>
-    ensures { result ≡ status_read read }
+    ensures { result ≡ file_status read }
 {
     match read {
         Ok(()) => Some(Status::Well),
