@@ -97,7 +97,7 @@ struct iref_place {
 };
 
 /* Why a text is no reference of IRIs, and where. It is cut into components by the expression of RFC 3986 appendix B, an
- * authority at its first `@`, and what follows at the first `:`, or behind the first `]` if it begins with `[`. What stands
+ * authority at its first `@`, and what follows at the first `:`, or behind the last `]` if it begins with `[`. What stands
  * of the component before the place can begin one of its rule, and with the next character it cannot, unless the component
  * ends there. A host that begins with `[` and is outside its rule is wrong at the `[`. Bytes that are not UTF-8 are wrong
  * behind the longest beginning that is. Of `http://h:8x0/` *place becomes IREF_PORT and 10, of each reference of IRIs

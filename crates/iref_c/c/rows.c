@@ -27,10 +27,11 @@ struct one {
     const char *text, *wanted;
 };
 
-/* Two texts and what is written for them, or NULL where the answer is IREF_NONE. */
+/* Two texts and what is written for them, or NULL and the status. */
 struct two {
     of_two *call;
     const char *first, *second, *wanted;
+    uint32_t status;
 };
 
 static const struct one ONES[] = {{iref_normalize_path, "/../x", "/x"},
@@ -43,31 +44,34 @@ static const struct one ONES[] = {{iref_normalize_path, "/../x", "/x"},
                                   {iref_canonical, ".", ""},
                                   {iref_canonical, "%2E%2E/x", "../x"}};
 
-static const struct two TWOS[] = {{iref_resolve, "../g", "http://a/b/c/d", "http://a/b/g"},
-                                  {iref_resolve, "../x", "s:a", "s:../x"},
-                                  {iref_resolve, "x/..", "s:a", "s:"},
-                                  {iref_resolve, "../..//", "http:/a/b", "http:/.//"},
-                                  {iref_relative, "http://a/b", "http://a/b/c/d", "../../b"},
-                                  {iref_relative, "http://a", "http://a/b", "http://a"},
-                                  {iref_relative, "//a/path", "http://a/path", "path"},
-                                  {iref_relativized, "http://a/b/", "http://a/b/c/d", ".."},
-                                  {iref_relativized, "http://a/b/c/g", "http://a/b/c/d;p?q", "g"},
-                                  {iref_relativized, "http://a/b/c/d;p?q", "http://a/b/c/d;p?q", ""},
-                                  {iref_relativized, "http://a/b/c/d;p?y", "http://a/b/c/d;p?q", "?y"},
-                                  {iref_relativized, "http://a/", "http://a/b/c/d;p?q", "/"},
-                                  {iref_relativized, "http://g/x", "http://a/b/c/d;p?q", "//g/x"},
-                                  {iref_relativized, "http://a/%7Eb/c", "http://a/~b/d", "/%7Eb/c"},
-                                  {iref_relativized, "http://a/x/../b?r", "http://a/x/../b?q", "?r"},
-                                  {iref_relativized, "http://a/x/../b", "http://a/c", NULL},
-                                  {iref_relativized, "http://h/a/..", "http://h/b", NULL}};
+static const struct two TWOS[] = {{iref_resolve, "../g", "http://a/b/c/d", "http://a/b/g", IREF_OK},
+                                  {iref_resolve, "../x", "s:a", "s:../x", IREF_OK},
+                                  {iref_resolve, "x/..", "s:a", "s:", IREF_OK},
+                                  {iref_resolve, "../..//", "http:/a/b", "http:/.//", IREF_OK},
+                                  {iref_relative, "http://a/b", "http://a/b/c/d", "../../b", IREF_OK},
+                                  {iref_relative, "http://a", "http://a/b", "http://a", IREF_OK},
+                                  {iref_relative, "//a/path", "http://a/path", "path", IREF_OK},
+                                  {iref_relativized, "http://a/b/", "http://a/b/c/d", "..", IREF_OK},
+                                  {iref_relativized, "http://a/b/c/g", "http://a/b/c/d;p?q", "g", IREF_OK},
+                                  {iref_relativized, "http://a/b/c/d;p?q", "http://a/b/c/d;p?q", "", IREF_OK},
+                                  {iref_relativized, "http://a/b/c/d;p?y", "http://a/b/c/d;p?q", "?y", IREF_OK},
+                                  {iref_relativized, "http://a/", "http://a/b/c/d;p?q", "/", IREF_OK},
+                                  {iref_relativized, "http://g/x", "http://a/b/c/d;p?q", "//g/x", IREF_OK},
+                                  {iref_relativized, "http://a/%7Eb/c", "http://a/~b/d", "/%7Eb/c", IREF_OK},
+                                  {iref_relativized, "http://a/x/../b?r", "http://a/x/../b?q", "?r", IREF_OK},
+                                  {iref_relativized, "http://a/x/../b", "http://a/c", NULL, IREF_NONE},
+                                  {iref_relativized, "http://h/a/..", "http://h/b", NULL, IREF_NONE},
+                                  {iref_resolve, "a b", "//a", NULL, IREF_INVALID},
+                                  {iref_resolve, "g", "//a/b", NULL, IREF_SECOND_INVALID},
+                                  {iref_relative, "a b", "<", NULL, IREF_INVALID},
+                                  {iref_relative, "a", "a b", NULL, IREF_SECOND_INVALID},
+                                  {iref_relativized, "b", "s:a", NULL, IREF_INVALID},
+                                  {iref_relativized, "s:a", "b", NULL, IREF_SECOND_INVALID}};
 
 #define COUNT(rows) (sizeof(rows) / sizeof *(rows))
 
-static void expect_text(uint32_t status, const char *out, size_t length, const char *wanted, const char *text) {
-    if (!wanted)
-        expect(status == IREF_NONE, "a text where there is none", text);
-    else
-        expect(status == IREF_OK && length == strlen(wanted) && memcmp(out, wanted, length) == 0, "another text", text);
+static void expect_text(const char *out, size_t length, const char *wanted, const char *text) {
+    expect(length == strlen(wanted) && memcmp(out, wanted, length) == 0, "another text", text);
 }
 
 static void check_texts(void) {
@@ -76,14 +80,16 @@ static void check_texts(void) {
         const struct one *row = &ONES[i];
         size_t needed = 0;
         uint32_t status = row->call(row->text, strlen(row->text), out, sizeof out, &needed);
-        expect_text(status, out, needed, row->wanted, row->text);
+        expect(status == IREF_OK, "another status", row->text);
+        expect_text(out, needed, row->wanted, row->text);
     }
     for (size_t i = 0; i < COUNT(TWOS); i++) {
         const struct two *row = &TWOS[i];
         size_t needed = 0;
         uint32_t status =
             row->call(row->first, strlen(row->first), row->second, strlen(row->second), out, sizeof out, &needed);
-        expect_text(status, out, needed, row->wanted, row->first);
+        expect(status == row->status, "another status", row->first);
+        if (row->wanted) expect_text(out, needed, row->wanted, row->first);
     }
 }
 
@@ -107,6 +113,44 @@ static void check_fault(const char *text, size_t what, size_t at) {
     struct iref_place place;
     iref_fault(text, strlen(text), &place);
     expect(place.what == what && place.at == at, "a place is wrong", text);
+}
+
+/* The status of both comparisons, where one of the texts is no reference. */
+static void check_status(const char *first, const char *second, uint32_t wanted) {
+    uint32_t equal = 7;
+    int32_t order = 7;
+    uint32_t status = iref_equal(first, strlen(first), second, strlen(second), &equal);
+    uint32_t other = iref_compare(first, strlen(first), second, strlen(second), &order);
+    expect(status == wanted && other == wanted, "another status", first);
+}
+
+/* A call that takes a text apart. */
+typedef uint32_t of_ranges(const char *text, size_t length, struct iref_ranges *ranges);
+
+/* The ranges of the components, in the order of the struct. */
+static void check_parts(of_ranges *call, const char *text, const size_t wanted[8][3]) {
+    struct iref_ranges ranges;
+    expect(call(text, strlen(text), &ranges) == IREF_OK, "it is refused", text);
+    const struct iref_range found[] = {ranges.scheme, ranges.authority, ranges.user_info, ranges.host,
+                                       ranges.port,   ranges.path,      ranges.query,     ranges.fragment};
+    for (size_t i = 0; i < COUNT(found); i++) {
+        int is_same = found[i].is_there == wanted[i][0] && found[i].start == wanted[i][1] && found[i].end == wanted[i][2];
+        expect(is_same, "a component stands elsewhere", text);
+    }
+}
+
+/* Each of the calls, over a text with all components and over one that has no scheme. */
+static void check_components(void) {
+    static of_ranges *const CALLS[] = {iref_parse_uri_reference, iref_parse_iri_reference, iref_parse_uri, iref_parse_iri};
+    static const size_t ALL[8][3] = {{1, 0, 4},   {1, 7, 15},  {1, 7, 10},  {1, 11, 12},
+                                     {1, 13, 15}, {1, 15, 17}, {1, 18, 19}, {1, 20, 21}};
+    static const size_t SOME[8][3] = {{0, 0, 0}, {1, 2, 6}, {0, 0, 0}, {1, 2, 3},
+                                      {1, 4, 6}, {1, 6, 6}, {0, 0, 0}, {0, 0, 0}};
+    for (size_t i = 0; i < COUNT(CALLS); i++) check_parts(CALLS[i], "http://u:p@h:80/a?q#f", ALL);
+    for (size_t i = 0; i < 2; i++) check_parts(CALLS[i], "//h:80", SOME);
+    struct iref_ranges ranges;
+    expect(iref_parse_uri("//h:80", 6, &ranges) == IREF_INVALID, "it is no URI", "//h:80");
+    expect(iref_parse_iri("//h:80", 6, &ranges) == IREF_INVALID, "it is no IRI", "//h:80");
 }
 
 /* The order of bytes, the shorter text first where it begins the longer. */
@@ -147,6 +191,9 @@ int main(void) {
     check_texts();
     check_order();
     check_ranges();
+    check_components();
+    check_status("a b", "<", IREF_INVALID);
+    check_status("a", "a b", IREF_SECOND_INVALID);
     check_equal("HTTP://a/%7Eb/./c", "http://a/~b/c", 1);
     check_equal("?a%26b", "?a&b", 1);
     check_equal("a/..", "", 1);
@@ -154,7 +201,14 @@ int main(void) {
     check_equal("/a%2Fb", "/a/b", 0);
     check_equal("/a/%2E%2E/b", "/b", 0);
     check_equal("http://A", "http://a", 0);
+    check_fault("1a:b", IREF_SCHEME, 0);
+    check_fault("//a b@h", IREF_USER_INFO, 3);
+    check_fault("//[::1]:x", IREF_PORT, 8);
+    check_fault("//[::1]:8x]", IREF_HOST, 2);
     check_fault("http://h:8x0/", IREF_PORT, 10);
+    check_fault("a b", IREF_PATH, 1);
+    check_fault("?a|b", IREF_QUERY, 2);
+    check_fault("#a#b", IREF_FRAGMENT, 2);
     check_fault("http://a@b@c", IREF_HOST, 10);
     check_fault("http://[x]/", IREF_HOST, 7);
     check_fault("a\xC3", IREF_NOT_UTF8, 1);
