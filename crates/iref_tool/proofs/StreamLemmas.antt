@@ -3,7 +3,8 @@ use Rattle.std.proofs.Common.{◌≡◌, ℕ, true, false, List, [], ◌∷◌, 
 use Rattle.std.proofs.{KnownBytes.{Consumes-kept, Consumes-nil, Consumes-trans}, lemmas.Slice.Zip.{all_zipped_more}}
 use Rattle.std.specs.Io.KnownBytes.{Consumes, IsAtEnd, Keeps}
 use Rattle.iref.specs.{Rules.{Text}, Texts.{is_empty}}
-use Rattle.iref_batch.specs.{Gathering.{IsLine, IsNothing}, Lines.{lines_of}, Runs.{ended_lines, with_newline}, declared.{lines.Begun.{Begun}, status.Status.{Status}}}
+use Rattle.iref_batch.specs.{Gathering.{IsLine, IsNothing}, Lines.{lines_of}, Runs.{ended_lines, with_newline}, declared.lines.Begun.{Begun}}
+use Rattle.iref_batch.specs.declared.{status.Status.{Status}, status.Status.TheVariants.{Well}}
 use Rattle.iref_batch.proofs.SeenLemmas.{ended_lines_of_seen, lines_of_all_seen, lines_of_seen, seen_line, seen_nothing, seen_part}
 use Rattle.iref_tool.specs.Streams.{IsGiven, GivesAll, GivesBeginning, GivesFile, GivesLine, GivesLines, InInput, OnReadError, ReadsMore, file_status}
 use Rattle.iref_tool.specs.declared.input.{Failure.{Failure}, Failure.TheVariants.{Read, Write}}
@@ -132,3 +133,12 @@ module _ {T : Type 0} (given : T → List (Option Text) → T → Type 0) (both 
 
   pub file_given : (read : Result (Unit {0}) Failure) (status : Option Status) → status ≡ file_status read → OnOk read ((text : Text) × GivesLines given (lines_of text) old mid) → OnReadError read ((text : Text) × GivesLines given (ended_lines text) old mid) → IfSome status (λ s. GivesFile given s old new)
   file_given read status is lines cut = rw is (file_given_by read lines cut)
+
+-- what holds where a read went well holds of a file that is well
+pub holds_if_well : (P : Type 0) (read : Result (Unit {0}) Failure) (status : Option Status) → status ≡ file_status read → OnOk read P → IfSome status (λ s. s ≡ Well → P)
+holds_if_well P read status is holds = rw is (by read holds)
+  where
+    by : (read : Result (Unit {0}) Failure) → OnOk read P → IfSome (file_status read) (λ s. s ≡ Well → P)
+    by (Ok done) p = λ well. p
+    by (Err Write) p = tt
+    by (Err (Read error)) p = λ well. absurd (cc well)

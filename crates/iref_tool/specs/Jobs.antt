@@ -54,7 +54,7 @@ is_below above r = is_some (reference_suffix above r)
 abbrev pub has_seen : Unique → ReferenceValue → Bool
 has_seen unique r = contains text_order unique.seen (sort_key (key r))
 
--- the lines before are the same, and the last one if there is one
+-- what was seen before is still seen; so is a line that was answered, and nothing else
 abbrev pub SeesMore : Unique → Option Text → Unique → Type 0
 SeesMore old None new = (r : ReferenceValue) → has_seen new r ≡ has_seen old r
 SeesMore old (Some line) new = (r : ReferenceValue) → has_seen new r ≡ (are_alike (read_reference line) r || has_seen old r)
@@ -63,7 +63,7 @@ SeesMore old (Some line) new = (r : ReferenceValue) → has_seen new r ≡ (are_
 abbrev pub gathered : Sort → Text
 gathered sort = sort.text.items
 
--- the lines gathered before are the same, and the last one if there is one
+-- what was gathered stays; a line that was answered is added with its LF
 abbrev pub Gathers : Sort → Option Text → Sort → Type 0
 Gathers old None new = gathered new ≡ gathered old
 Gathers old (Some line) new = gathered new ≡ gathered old ++ with_newline line

@@ -1,13 +1,23 @@
-//! The lines that the examples answer: `put<TAB>URI<TAB>value` and `get<TAB>URI` by the cache,
-//! `relink<TAB>page<TAB>link` by the mirror, `prefix<TAB>label<TAB>IRI`, `shorten<TAB>IRI` and
-//! `expand<TAB>label:rest` by the context, `check<TAB>text` by the validator. By `iref` alone:
-//! `canonical<TAB>reference` by the canonical text, `key<TAB>reference` by the digits of the sort
-//! key, `fault<TAB>reference` by where a text is wrong, `relativized<TAB>target<TAB>base` of two
-//! IRIs by `=` and the shortest reference from the base to the very target, or `-` where there is
-//! none.
+//! The lines that the examples answer, and those that `iref` answers by one call:
 //!
-//! A line that is not UTF-8 is answered `error invalid`, but one of `fault` with where its reference
-//! is not: `fault<TAB>a` and the byte 255 by `not UTF-8 at byte 1`.
+//! |Line|Answer|
+//! |---|---|
+//! |`put<TAB>URI<TAB>value`|`ok`; the cache keeps the value|
+//! |`get<TAB>URI`|`=` and the value of an equal URI, or `-`|
+//! |`relink<TAB>page<TAB>link`|`ok<TAB>` and the link relative to its page|
+//! |`prefix<TAB>label<TAB>IRI`|`ok`, or `error: ` and why there is no such entry|
+//! |`shorten<TAB>IRI`|the IRI by the longest prefix, or as it stands|
+//! |`expand<TAB>label:rest`|the IRI, or `error: ` and why there is none|
+//! |`check<TAB>text`|`ok`, or `error ` and the component that is wrong|
+//! |`canonical<TAB>reference`|`ok<TAB>` and the canonical text|
+//! |`key<TAB>reference`|`ok<TAB>` and the digits of the sort key|
+//! |`fault<TAB>reference`|`ok`, or `error<TAB>` and where it is wrong, in bytes from 0|
+//! |`relativized<TAB>target<TAB>base`|`ok<TAB>=` and the shortest reference, or `ok<TAB>-`|
+//!
+//! A text outside its rule is answered `error invalid`, of `prefix` and `shorten` `error: not an
+//! IRI`, and another number of fields `error command`. So is a line that is not UTF-8 answered
+//! `error invalid`, but one of `fault`: `fault<TAB>a` and the byte 255 by `error<TAB>not UTF-8 at
+//! byte 1`.
 
 ghost use Rattle.std.specs.{Prelude.{◌≡◌, OnErr}, Option.{option_copied}};
 ghost use Rattle.iref_tool.specs.Examples.{HaveSame, is_of_examples, is_one_field};

@@ -1,8 +1,9 @@
 //! `iref`: URIs and IRIs (RFC 3986, RFC 3987) at a terminal, one answer at a time or line by line.
 //!
-//! The status is 0; 1 where a text or, but in `lines`, a line is wrong, memory is refused or a write
-//! fails; 2 where the words are wrong or a file cannot be read. An output that nobody reads any more
-//! ends the program with no message, and with the status that it has by then.
+//! The status is 0; 1 where a text or a line is wrong, memory is refused or a write fails; 2 where
+//! the words are wrong or a file cannot be read. `lines` answers a wrong line, and one for which
+//! memory is refused, and its status stays 0. An output that nobody reads any more ends the program
+//! with no message, and with the status that it has by then.
 #![tactic(auto)]
 
 mod edits;

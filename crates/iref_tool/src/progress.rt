@@ -18,7 +18,7 @@ pub struct Progress<E> {
 }
 
 impl<E: Write> Progress<E> {
-    /// Before the first of these bytes is read, if it is to be said how far they are read.
+    /// Nothing is read yet. `whole` is how many bytes there are, or None where nothing is to be said.
     pub fn new(err: E, whole: Option<u64>) -> Self {
         Progress {
             err,

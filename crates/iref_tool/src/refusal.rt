@@ -99,17 +99,23 @@ impl Refusal<'_> {
     }
 }
 
-// Writes a word with each control character as U+FFFD, so that none acts on a terminal and each
-// takes a column.
-fn write_word<W: fmt::Write>(f: &mut fmt::Formatter<W>, word: &str) -> fmt::Result {
-    for c in word.chars() {
-        f.write_char(if c.is_control() { '\u{FFFD}' } else { c })?;
+/// A word with each control character as U+FFFD, so that none acts on a terminal and each takes a
+/// column.
+#[derive(Clone, Copy)]
+pub struct Shown<'a>(pub &'a str);
+
+impl fmt::Display for Shown<'_> {
+    fn fmt<W: fmt::Write>(&self, f: &mut fmt::Formatter<W>) -> fmt::Result {
+        for c in self.0.chars() {
+            f.write_char(if c.is_control() { '\u{FFFD}' } else { c })?;
+        }
+        Ok(())
     }
-    Ok(())
 }
 
 /// Two lines, and a third with a caret below the place where there is one: `iref: BASE is no IRI:
-/// invalid host: ' '`, the place in characters, and the word.
+/// invalid host: ' '`, the place in characters, and the word. Where memory was refused one line says
+/// so.
 impl fmt::Display for Refusal<'_> {
     fn fmt<W: fmt::Write>(&self, f: &mut fmt::Formatter<W>) -> fmt::Result {
         let Refusal::Word(argument, word, reason) = self else {
@@ -117,14 +123,11 @@ impl fmt::Display for Refusal<'_> {
         };
         write!(f, "iref: {argument} {reason}")?;
         let Reason::Text { start, fault, .. } = reason else {
-            f.write_str("\n    ")?;
-            write_word(f, word)?;
-            return f.write_str("\n");
+            return write!(f, "\n    {}\n", Shown(word));
         };
         let at = start.saturating_add(fault.at());
-        write!(f, ", at character {}\n    ", column(word.as_bytes(), at))?;
-        write_word(f, word)?;
-        f.write_str("\n    ")?;
+        let column = column(word.as_bytes(), at);
+        write!(f, ", at character {column}\n    {}\n    ", Shown(word))?;
         for _ in 0..columns_before(word, at) {
             f.write_char(' ')?;
         }

@@ -1,9 +1,11 @@
 //! What the words ask for, done.
-ghost use Rattle.std.specs.Prelude.{◌≡◌, ◌≢◌, IfOk, IfSome, OnOk, map};
+ghost use Rattle.std.specs.Prelude.{◌≡◌, ◌≢◌, None, IfOk, IfSome, OnOk, map};
 ghost use Rattle.std.specs.{Io.KnownBytes.{Appends}, IoError.{error_kind}};
 ghost use Rattle.iref.specs.{References.{reference_text}, Rules.{Text}};
-ghost use Rattle.iref_batch.specs.{Lines.{lines_of}, Runs.{ended_lines, with_newlines}, StdStreams.{inner_of}};
+ghost use Rattle.iref_batch.specs.{Lines.{lines_of}, Runs.{ended_lines, with_newlines}};
+ghost use Rattle.iref_batch.specs.StdStreams.{failure_of, inner_of};
 ghost use Rattle.iref_tool.specs.JobRuns.{DoesAll, TurnsWrong};
+ghost use Rattle.iref_tool.specs.Words.{status_of};
 ghost use Rattle.iref_tool.specs.Streams.{GivesFile, GivesLines, OnReadError, file_status};
 
 use crate::examples::Tables;
@@ -13,7 +15,7 @@ use crate::lines::Lines;
 use crate::progress::{LONG, Progress};
 use crate::question::answer;
 use crate::read::{iri, reference};
-use crate::refusal::Refusal;
+use crate::refusal::{Refusal, Shown};
 use crate::texts::Texts;
 use crate::words::{word_of, words_of};
 use clap::ArgMatches;
@@ -39,7 +41,13 @@ pub fn output_failed(rt: &HostRuntime, error: &io::Error, status: Status) -> Sta
 }
 
 // The status of a run, whose output may have failed.
-fn ended<W: Write>(rt: &HostRuntime, out: &FromStd<W>, status: Status) -> Status {
+fn ended<W: Write>(rt: &HostRuntime, out: &FromStd<W>, status: Status) -> Status
+    ensures works { failure_of out.now ≡ None → result ≡ status }
+    ensures unread { IfSome (failure_of out.now)
+        (λ error. error_kind error ≡ ErrorKind.BrokenPipe → result ≡ status) }
+    ensures failed { IfSome (failure_of out.now)
+        (λ error. error_kind error ≢ ErrorKind.BrokenPipe → TurnsWrong status result) }
+{
     match out.failure() {
         None => status,
         Some(error) => output_failed(rt, error, status),
@@ -47,7 +55,9 @@ fn ended<W: Write>(rt: &HostRuntime, out: &FromStd<W>, status: Status) -> Status
 }
 
 // Prints why there is no answer.
-fn refused(rt: &HostRuntime, refusal: &Refusal<'_>) -> Status {
+fn refused(rt: &HostRuntime, refusal: &Refusal<'_>) -> Status
+    ensures { result ≡ status_of refusal.now }
+{
     let _ = rt.eprint(refusal);
     refusal.status()
 }
@@ -92,6 +102,7 @@ fn each_line_of<T: TakesLines>(rt: &HostRuntime, file: &str, to: &mut T) -> Resu
         ((text : Text) × GivesLines T.given (lines_of text) to.old to.new) }
     ensures cut { OnReadError result
         ((text : Text) × GivesLines T.given (ended_lines text) to.old to.new) }
+    ensures settled { OnOk result (T.is_settled to.new) }
 {
     if file == "-" {
         return each_line(rt.alloc(), &mut rt.stdin(), to);
@@ -107,7 +118,7 @@ fn status_of_read(rt: &HostRuntime, file: &str, read: Result<(), Failure>) -> Op
         Ok(()) => Some(Status::Well),
         Err(Failure::Write) => None,
         Err(Failure::Read(error)) => {
-            let _ = eprintln!(rt; "iref: {file}: {error}");
+            let _ = eprintln!(rt; "iref: {}: {error}", Shown(file));
             Some(Status::Misused)
         }
     }
@@ -115,7 +126,8 @@ fn status_of_read(rt: &HostRuntime, file: &str, read: Result<(), Failure>) -> Op
 
 // Gives each line of a file away: the status of the file, unless a write failed.
 fn read_file<T: TakesLines>(rt: &HostRuntime, file: &str, to: &mut T) -> Option<Status>
-    ensures { IfSome result (λ status. GivesFile T.given status to.old to.new) }
+    ensures lines { IfSome result (λ status. GivesFile T.given status to.old to.new) }
+    ensures settled { IfSome result (λ status. status ≡ Status.Well → T.is_settled to.new) }
 {
     let read = each_line_of(rt, file, to);
     to.make_room();

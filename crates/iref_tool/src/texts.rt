@@ -35,10 +35,11 @@ pub struct Texts<'a, J, W, E> {
     pub reports: bool,
     /// What is to be written where answers go.
     pub answers: Vec<u8>,
+    /// What is to be written to standard error.
+    pub notes: Vec<u8>,
     err: E,
     progress: Progress<E>,
-    // Notes that go to standard error, and a note as it is made.
-    notes: Vec<u8>,
+    // A note as it is made.
     made: Vec<u8>,
 }
 
@@ -109,9 +110,9 @@ impl<'a, J: Job, W: Write, E: Write> Texts<'a, J, W, E> {
             number: 0,
             reports: false,
             answers: Vec::new(alloc),
+            notes: Vec::new(alloc),
             err,
             progress,
-            notes: Vec::new(alloc),
             made: Vec::new(alloc),
         }
     }
@@ -161,6 +162,7 @@ impl<'a, J: Job, W: Write, E: Write> Texts<'a, J, W, E> {
         ensures place { StaysAt self.old self.new }
         ensures status { self.new.status ≡ self.old.status }
         ensures settled { OnOk result (self.new.answers.items ≡ []) }
+        ensures noted { OnOk result (self.new.notes.items ≡ []) }
         ensures written { OnOk result (Writes self.old.answers.items
             (W.contents (inner_of self.old.out)) (W.contents (inner_of self.new.out))) }
     {
@@ -196,7 +198,7 @@ impl<J: Job, W: Write, E: Write> TakesLines for Texts<'_, J, W, E> {
     ghost given = { λ old lines new.
         DoesJob J.outcome J.goes_on W.contents old lines new };
 
-    ghost is_settled = { λ texts. texts.answers.items ≡ [] };
+    ghost is_settled = { λ texts. (texts.answers.items ≡ []) × (texts.notes.items ≡ []) };
 
     ghost given_none = { λ s. DoesJob-nothing J.outcome J.goes_on W.contents s };
 

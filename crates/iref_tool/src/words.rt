@@ -26,8 +26,9 @@ Examples:
   iref canonical --keep urls.txt | LC_ALL=C sort -u -t \"$(printf '\\t')\" -k 1,1
   iref below http://h/docs urls.txt
 
-The status is 0; 1 where a text or, but in lines, a line is wrong, memory runs out or a write
-fails; 2 where the words are wrong or a file cannot be read.";
+The status is 0; 1 where a text or a line is wrong, memory runs out or a write fails; 2 where the
+words are wrong or a file cannot be read. lines answers a wrong line, and one without memory, and
+its status stays 0.";
 
 // The commands, in the order of the help, and what each does.
 const COMMANDS: &[(&str, &str)] = &[
@@ -96,7 +97,7 @@ fn help_of(id: &str) -> &'static str {
         "base" => "Take each line of the files against this base",
         "keep" => "Write the line behind its answer, with a TAB between",
         "uri" => "Allow the characters of URIs alone",
-        "absolute" => "Want a scheme",
+        "absolute" => "Want a scheme; a fragment may follow",
         _ => "A URI or IRI, or a relative reference",
     }
 }

@@ -9,6 +9,6 @@ loop-file-preserved g c =
     let status = c.in-Some.of_file in (
       read.0 ++ status ∷ [],
       one_more_file (λ old lines new. DoesJob g.J.Job.outcome g.J.Job.goes_on g.W.Write.contents old lines new) c.args.files.now c.loop-file.file-index _ (search rules)
-          read.0 status c.args.texts.now c.loop-file.texts c.begin.new.self c.read_file.new.to read.1 c.begin.ensures c.in-Some.ensures,
+          read.0 status c.args.texts.now c.loop-file.texts c.begin.new.self c.read_file.new.to read.1 c.begin.ensures c.in-Some.ensures.lines,
       worst_more read.0 status c.loop-file.status c.worse-status.result read.2 c.worse-status.ensures,
     )
