@@ -1,5 +1,5 @@
-//! Jobs that users of `iref` wait for, over inputs that it makes: `iref_bench JOB COUNT SEED` does a job
-//! `COUNT` times, and prints a digest of all results.
+//! Jobs that users of `iref` wait for, over inputs that it makes: `iref_bench JOB COUNT SEED ..` does
+//! each job over inputs of this size, and prints a digest of its results.
 #![tactic(auto)]
 
 mod awkward;

@@ -20,19 +20,19 @@ pub struct Place {
 
 /// Nothing is wrong.
 pub const NOTHING: usize = 0;
-/// The scheme is.
+/// The scheme is wrong.
 pub const SCHEME: usize = 1;
-/// The user info is.
+/// The user info is wrong.
 pub const USER_INFO: usize = 2;
-/// The host is.
+/// The host is wrong.
 pub const HOST: usize = 3;
-/// The port is.
+/// The port is wrong.
 pub const PORT: usize = 4;
-/// The path is.
+/// The path is wrong.
 pub const PATH: usize = 5;
-/// The query is.
+/// The query is wrong.
 pub const QUERY: usize = 6;
-/// The fragment is.
+/// The fragment is wrong.
 pub const FRAGMENT: usize = 7;
 /// The bytes are not UTF-8.
 pub const NOT_UTF8: usize = 8;

@@ -1,6 +1,7 @@
 //! Functions as a caller writes them, proved from public clauses and laws of `iref`: here those of
-//! one reference or path, and a module for each longer example. Those of `chosen` know nothing of
-//! references: `iref_bench` draws from its tables by them.
+//! one reference or path, and a module for each longer example. `validator` and `context` also cut
+//! texts by `iref_parse`, and the proofs of `below` and `cache` use lemmas of crates below `iref`.
+//! Those of `chosen` know nothing of references: `iref_bench` draws from its tables by them.
 #![tactic(auto)]
 
 ghost use Rattle.std.specs.Prelude.{◌≡◌, ◌↔◌, IfOk, MatchOption, count_by, fold, length, map, max, reverse, true};

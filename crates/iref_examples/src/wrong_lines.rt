@@ -24,6 +24,7 @@ impl fmt::Display for WrongLine {
 }
 
 /// The lines that are no IRI references, in order: of `a`, `b c` and `d`, each on a line, the second.
+/// A line ends with LF or with CR LF, where the command `iref` takes CR for a part of the line.
 pub fn wrong_lines(alloc: Global, text: &str) -> Result<Vec<WrongLine>, Memory>
     ensures { IfOk result (λ wrong. map line_and_fault wrong.items
         ≡ wrong_lines 1 (lines text.now)) }

@@ -1,4 +1,4 @@
-//! An index of URIs in a table of SQLite: `iref_index FILE` makes some thousand URIs, puts them into a
+//! An index of URIs in a table of SQLite: `iref_index FILE` makes 3,072 URIs, puts them into a
 //! table of the file, each under its sort key, and closes the file. It opens the file again, and
 //! answers each line, a URI: how many URIs of the table are below it, the first and the last of them.
 //! One range of the keys finds them, and is compared with what a scan of all URIs by `suffix` finds.
