@@ -38,4 +38,5 @@ pub mod LongNameLemmas
 pub mod HashedTextLemmas
 pub mod HashedLemmas
 pub mod HashedPartLemmas
+pub mod KnownKeyLemmas
 mod HashedRows

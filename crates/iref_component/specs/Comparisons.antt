@@ -1,5 +1,5 @@
 -- What texts are compared by, and what it is that a type compares by it.
-use Rattle.std.specs.{Prelude.{◌≡◌, true, ◌↔◌}, BTreeMap.Lent.{OrdMembers}, Cmp.{IsTotalOrder}}
+use Rattle.std.specs.{Prelude.{◌≡◌, true, ◌↔◌, ℕ, List, ◌++◌}, BTreeMap.Lent.{OrdMembers}, Cmp.{IsTotalOrder}, List.{concat}}
 use Rattle.std.specs.{Cmp.Lexicographic.{nat_list_cmp_total}, Hash.{HashWrites}, HashMap.Lent.{HashMembers}}
 use Rattle.std.specs.{Ordering.{is_eq}, declared.cmp.Ordering.{Ordering}}
 use Rattle.iref_grammar.specs.{Authority.{AuthorityValue, read_authority}, Keys.{text_order}}
@@ -35,6 +35,15 @@ ComparesBy {V} key order known fed ord hash =
     × ((a b : V) → ord.cmp a b ≡ order (key a) (key b))
     × ((v : V) → hash.hash_input v ≡ fed (key v))
     × IsSelfDelimiting known fed
+
+-- the keys of all values are known
+abbrev pub AreKnown : {V K : Type 0} → (V → K) → (K → Type 0) → HashMembers V → Type 0
+AreKnown {V} key known hash = (v : V) → known (key v)
+
+-- A hasher reads the same bytes of two values, each with other bytes behind it, only if their keys are the same, and those other bytes.
+abbrev pub AreFedApart : {V W K : Type 0} → (V → K) → (W → K) → HashMembers V → HashMembers W → Type 0
+AreFedApart {V} {W} key other_key hash other_hash =
+    (v : V) (w : W) (r s : List ℕ) → concat (hash.hash_input v) ++ r ≡ concat (other_hash.hash_input w) ++ s → (key v ≡ other_key w) × (r ≡ s)
 
 -- authorities: user info and host as decoded bytes, the port as text
 abbrev pub by_parts : Comparison

@@ -209,7 +209,7 @@ impl Rule for PathRule {
         scan::is_path::<C>(text)
     }
 
-    ghost keyed = { λ _ _ _. record {} };
+    ghost keyed = { λ _ _ in_rule. in_rule };
 }
 
 impl<T> Refuses<T> for PathRule {

@@ -1,9 +1,10 @@
 //! What texts are compared by, in their order, and hashed by.
 ghost use Rattle.std.specs.{Prelude.{◌≡◌, fold, true}, Ordering.{eq_by_cmp}, Str.{str_to_ascii_lowercase}};
 ghost use Rattle.percent_encoding.specs.Percent.{percent_decode};
-ghost use Rattle.iref_grammar.specs.{CharTests, Text, text_order, Authority.{is_authority}};
+ghost use Rattle.iref_grammar.specs.{AreAboveAscii, CharTests, Text, text_order, is_path, Authority.{is_authority}};
 ghost use Rattle.iref_canonical.specs.HashedParts.{fed_part};
 ghost use Rattle.iref_component.specs.Comparisons.{Comparison, by_parts, by_segments, by_text};
+ghost use Rattle.iref_canonical.proofs.KnownKeyLemmas.{path_known};
 
 use crate::authority_parts::parts_of;
 use iref_canonical::hashed::{feed, feed_path};
@@ -23,6 +24,10 @@ pub trait Key {
 
     /// The texts that have a key: all, where an impl does not say.
     ghost has_key: { CharTests → Text → Type 0 } = { λ _ _. Unit {0} };
+
+    /// Their keys are known: what a hasher reads of one differs from what it reads of another.
+    ghost known: { (tests : CharTests) → AreAboveAscii tests → (text : Text)
+        → Self.has_key tests text → Self.comparison.Known (Self.comparison.key text) };
 
     /// The order of the keys: of the schemes `HTTP` and `http` it is `Equal`.
     fn compare<C: CharSet>(a: &str, b: &str) -> Ordering
@@ -53,6 +58,8 @@ pub struct DecodedBytes;
 impl Key for DecodedBytes {
     ghost comparison = { by_text percent_decode };
 
+    ghost known = { λ _ _ _ _. record {} };
+
     fn compare<C: CharSet>(a: &str, b: &str) -> Ordering {
         decoded_cmp(a, b)
     }
@@ -67,6 +74,8 @@ pub struct LowerCase;
 
 impl Key for LowerCase {
     ghost comparison = { by_text str_to_ascii_lowercase };
+
+    ghost known = { λ _ _ _ _. record {} };
 
     fn compare<C: CharSet>(a: &str, b: &str) -> Ordering {
         if a == b {
@@ -87,6 +96,8 @@ pub struct SameText;
 impl Key for SameText {
     ghost comparison = { by_text (λ text. text) };
 
+    ghost known = { λ _ _ _ _. record {} };
+
     fn compare<C: CharSet>(a: &str, b: &str) -> Ordering {
         a.cmp(b)
     }
@@ -103,6 +114,8 @@ impl Key for PartsKey {
     ghost comparison = { by_parts };
 
     ghost has_key = { λ tests text. is_authority tests text ≡ true };
+
+    ghost known = { λ _ _ _ _. record {} };
 
     fn compare<C: CharSet>(a: &str, b: &str) -> Ordering {
         if a == b {
@@ -121,6 +134,10 @@ pub struct PathKey;
 
 impl Key for PathKey {
     ghost comparison = { by_segments };
+
+    ghost has_key = { λ tests text. is_path tests text ≡ true };
+
+    ghost known = { path_known };
 
     fn compare<C: CharSet>(a: &str, b: &str) -> Ordering {
         if a == b {

@@ -4,7 +4,7 @@ ghost use Rattle.std.specs.Prelude.{option_map};
 ghost use Rattle.iref_grammar.specs.{alone, is_empty, spell_path};
 ghost use Rattle.iref_canonical.specs.Hashed.{IsPathKey, fed_lone_path};
 ghost use Rattle.iref_grammar.specs.{normal_segments, path_key, path_key_cmp, PathSuffix.{path_suffix}};
-ghost use Rattle.iref_component.specs.{Comparisons.{ComparesBy}, Components.{text_of}};
+ghost use Rattle.iref_component.specs.{Comparisons.{AreKnown, ComparesBy}, Components.{text_of}};
 ghost use Rattle.iref_component.specs.{NormalPaths.{normal_segments_left}, Paths.{path_value, segments_left}};
 ghost use Rattle.iref_component.specs.Suffixes.{SpellsSuffix};
 ghost use Rattle.iref_grammar.specs.PathFunctions as function;
@@ -235,6 +235,8 @@ impl<'a, C: CharSet> IntoIterator for Path<'a, C> {
 /// dot segments are removed (RFC 3986 section 6.2.2.3) and escapes are decoded. Order and hash go
 /// by the same.
 pub fn paths_compare_by_key<S: Storage, C: CharSet>()
-    ensures { ComparesBy (λ p. path_key (path_value p)) path_key_cmp IsPathKey fed_lone_path
+    ensures by_key { ComparesBy (λ p. path_key (path_value p)) path_key_cmp IsPathKey fed_lone_path
         ⟦<RuleText<S, PathRule, C> as Ord>⟧ ⟦<RuleText<S, PathRule, C> as Hash>⟧ }
+    ensures known { AreKnown (λ p. path_key (path_value p)) IsPathKey
+        ⟦<RuleText<S, PathRule, C> as Hash>⟧ }
 {}

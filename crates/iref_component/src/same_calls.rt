@@ -4,7 +4,8 @@ ghost use Rattle.std.specs.Cmp.{on_total, on_equiv, po, partial_equiv_from_equiv
 ghost use Rattle.std.specs.Cmp.Rules.{comparing};
 ghost use Rattle.std.proofs.Common.{rules, ap, refl};
 ghost use Rattle.iref_grammar.specs.{is_empty};
-ghost use Rattle.iref_component.specs.{Comparisons.{ComparesBy}, Makers.{ParsesUtf8}, Components.{text_of}};
+ghost use Rattle.iref_component.specs.{Comparisons.{AreFedApart, AreKnown, ComparesBy}, Makers.{ParsesUtf8}};
+ghost use Rattle.iref_component.specs.Components.{text_of};
 
 use crate::key::Key;
 use crate::rule::{Escaped, Rule};
@@ -123,7 +124,17 @@ impl<S: Storage, R: Rule, C: CharSet> fmt::Debug for RuleText<S, R, C> {
 /// The texts of a rule, borrowed or owned, compare by its key: in `==`, in order and in what a
 /// hasher reads.
 pub fn texts_compare_by_key<S: Storage, R: Rule, C: CharSet>()
-    ensures { ComparesBy (λ v. R.Key.comparison.key (text_of v)) R.Key.comparison.order
+    ensures by_key { ComparesBy (λ v. R.Key.comparison.key (text_of v)) R.Key.comparison.order
         R.Key.comparison.Known R.Key.comparison.fed
         ⟦<RuleText<S, R, C> as Ord>⟧ ⟦<RuleText<S, R, C> as Hash>⟧ }
+    ensures known { AreKnown (λ v. R.Key.comparison.key (text_of v)) R.Key.comparison.Known
+        ⟦<RuleText<S, R, C> as Hash>⟧ }
+{}
+
+/// What a hasher reads of two texts of a rule differs where their keys differ, whatever it reads after
+/// them: of texts of URIs and of IRIs, borrowed and owned.
+pub fn unequal_texts_are_hashed_apart<S: Storage, T: Storage, R: Rule, C: CharSet, D: CharSet>()
+    ensures { AreFedApart (λ v. R.Key.comparison.key (text_of v))
+        (λ w. R.Key.comparison.key (text_of w))
+        ⟦<RuleText<S, R, C> as Hash>⟧ ⟦<RuleText<T, R, D> as Hash>⟧ }
 {}

@@ -1,10 +1,11 @@
 //! References and URIs, borrowed and owned, are compared by their keys.
 ghost use Rattle.std.specs.Cmp.{on_total, on_equiv, po, partial_equiv_from_equiv, eq_by_cmp_equiv};
-ghost use Rattle.std.specs.{Prelude.{◌≡◌}, Ordering.{on, as_partial_cmp, eq_by_cmp}, Cmp.Rules.{comparing}};
+ghost use Rattle.std.specs.{Prelude.{◌≡◌, true}, Ordering.{on, as_partial_cmp, eq_by_cmp}, Cmp.Rules.{comparing}};
 ghost use Rattle.std.proofs.Common.{rules, refl, ap};
 ghost use Rattle.iref_grammar.proofs.KeyOrderLemmas.{keys_separate, keys_total};
 ghost use Rattle.iref_canonical.specs.{Hashed.{IsReadableKey}, HashedParts.{HasPathKey}};
-ghost use Rattle.iref_component.specs.{key_cmp, fed_components, fed_reference, Comparisons.{ComparesBy}};
+ghost use Rattle.iref_component.specs.{fed_components, fed_reference, is_reference, key, key_cmp, read_reference, Text};
+ghost use Rattle.iref_component.specs.Comparisons.{AreFedApart, AreKnown, ComparesBy};
 ghost use Rattle.iref_reference.specs.Parts.{uri_ref_parts_key, uri_parts_key};
 ghost use Rattle.iref_reference.specs.References.{key_of_reference, key_of_reference_buf};
 
@@ -83,13 +84,29 @@ pub fn references_compare_by_key<C: CharSet>()
         ⟦<UriRef<'static, C> as Ord>⟧ ⟦<UriRef<'static, C> as Hash>⟧ }
     ensures uris { ComparesBy key_of_reference key_cmp IsReadableKey fed_reference
         ⟦<Uri<'static, C> as Ord>⟧ ⟦<Uri<'static, C> as Hash>⟧ }
+    ensures known_references { AreKnown key_of_reference IsReadableKey
+        ⟦<UriRef<'static, C> as Hash>⟧ }
+    ensures known_uris { AreKnown key_of_reference IsReadableKey ⟦<Uri<'static, C> as Hash>⟧ }
+{}
+
+/// What a hasher reads of two references differs where their keys differ, whatever it reads after
+/// them: of two references, two URIs, or one of each, of URIs and of IRIs.
+pub fn unequal_references_are_hashed_apart<C: CharSet, D: CharSet>()
+    ensures references { AreFedApart key_of_reference key_of_reference
+        ⟦<UriRef<'static, C> as Hash>⟧ ⟦<UriRef<'static, D> as Hash>⟧ }
+    ensures uris { AreFedApart key_of_reference key_of_reference
+        ⟦<Uri<'static, C> as Hash>⟧ ⟦<Uri<'static, D> as Hash>⟧ }
+    ensures one_of_each { AreFedApart key_of_reference key_of_reference
+        ⟦<UriRef<'static, C> as Hash>⟧ ⟦<Uri<'static, D> as Hash>⟧ }
 {}
 
 /// Owned values of any rule are equal, in order and hashed by the key of the reference, as borrowed
 /// ones are.
 pub fn owners_compare_by_key<R: HeldRule, C: CharSet>()
-    ensures { ComparesBy key_of_reference_buf key_cmp IsReadableKey fed_reference
+    ensures by_key { ComparesBy key_of_reference_buf key_cmp IsReadableKey fed_reference
         ⟦<ReferenceBuf<R, C> as Ord>⟧ ⟦<ReferenceBuf<R, C> as Hash>⟧ }
+    ensures known { (text : Text) → is_reference C.tests text ≡ true
+        → IsReadableKey (key (read_reference text)) }
 {}
 
 /// The components of references and of URIs are equal, in order and hashed by the key of the
@@ -99,4 +116,7 @@ pub fn parts_compare_by_key<C: CharSet>()
         ⟦<UriRefParts<'static, C> as Ord>⟧ ⟦<UriRefParts<'static, C> as Hash>⟧ }
     ensures uris { ComparesBy uri_parts_key key_cmp HasPathKey fed_components
         ⟦<UriParts<'static, C> as Ord>⟧ ⟦<UriParts<'static, C> as Hash>⟧ }
+    ensures known_references { AreKnown uri_ref_parts_key HasPathKey
+        ⟦<UriRefParts<'static, C> as Hash>⟧ }
+    ensures known_uris { AreKnown uri_parts_key HasPathKey ⟦<UriParts<'static, C> as Hash>⟧ }
 {}

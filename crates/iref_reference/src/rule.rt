@@ -6,6 +6,7 @@ ghost use Rattle.iref_grammar.proofs.ReferenceRuleLemmas.{Decides-is_uri_referen
 ghost use Rattle.iref_grammar.proofs.ComponentLemmas.{reference_if_uri, scheme_if_uri, uri_if_scheme};
 ghost use Rattle.iref_fault.proofs.FaultLemmas.{no_fault_of_reference, reference_invalid, no_fault_of_uri, uri_invalid};
 ghost use Rattle.iref_fault.specs.Faults as spec;
+ghost use Rattle.iref_canonical.proofs.KnownKeyLemmas.{reference_known};
 ghost use Rattle.iref_component.specs.{IsUri, IsUriReference, read_reference, is_reference, is_uri, Text, CharTests};
 ghost use Rattle.iref_reference_text.proofs.BaseLemmas.{base_of_in_rule, base_of_in_uri_rule};
 ghost use Rattle.iref_reference.specs.Comparisons.{by_components};
@@ -180,6 +181,8 @@ impl Key for ReferenceKey {
     ghost comparison = { by_components };
 
     ghost has_key = { λ tests text. is_reference tests text ≡ true };
+
+    ghost known = { reference_known };
 
     #[tactic(auto, unfolding(iref_grammar::specs::Key::key, iref_grammar::specs::Key::key_cmp))]
     fn compare<C: CharSet>(a: &str, b: &str) -> Ordering {

@@ -2,7 +2,7 @@ use Rattle.std.proofs.{Common.{ap, rules, Some}, lemmas.Option.{same_Some}}
 use Rattle.std.specs.{Str.{str_to_ascii_lowercase}, Cmp.Rules.{comparing}}
 use Rattle.iref_grammar.specs.Key.{key, key_cmp}
 use Rattle.iref_grammar.proofs.{TieLemmas.{texts_tie}, PartTieLemmas.{lower_case_tie, parts_tie}}
-use Rattle.iref_canonical.proofs.HashedPartLemmas.{components-delimit}
+use Rattle.iref_canonical.proofs.{HashedPartLemmas.{components-delimit}, KnownKeyLemmas.{path_known}}
 use Rattle.iref_component.specs.Components.{text_of}
 use Rattle.iref_reference.proofs.comparison.parts_compare_by_key.Goals as goal
 
@@ -28,3 +28,11 @@ returns-clause-uris g c = (
   (λ v. search rules),
   components-delimit,
 )
+
+pub returns-clause-known_references : goal.returns-clause-known_references
+unfolding key
+returns-clause-known_references g c = λ v. path_known g.C.CharSet.tests g.met.C.CharSet.above_ascii (text_of v.path) v.path.in_rule
+
+pub returns-clause-known_uris : goal.returns-clause-known_uris
+unfolding key
+returns-clause-known_uris g c = λ v. path_known g.C.CharSet.tests g.met.C.CharSet.above_ascii (text_of v.path) v.path.in_rule
