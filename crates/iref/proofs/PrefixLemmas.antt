@@ -411,7 +411,7 @@ module _ (label iri : Text) (table new : PrefixesValue) (h : replaced label iri 
       ap (map (λ (e : PrefixEntry). e.label)) (sym is.stands ∙ cond-true (is_taken label table.entries) (map (with_iri label iri) table.entries) (table.entries ++ record { label = label; iri = iri } ∷ []) taken)
       ∙ labels_changed label iri table.entries
 
-pub replaced-bad_label : (label iri : Text) (table : PrefixesValue) → (replaced label iri table ≡ Err (BadLabel table.labels)) ↔ IsFalse (is_label table.labels label)
+pub replaced-bad_label : (label iri : Text) (table : PrefixesValue) → (replaced label iri table ≡ Err BadLabel) ↔ IsFalse (is_label table.labels label)
 unfolding replaced
 replaced-bad_label label iri table = grind arith
 
@@ -458,7 +458,7 @@ pub table-nil : (labels : Labels) → IsPrefixTable (record { labels = labels; e
 table-nil labels = record { labels = refl; differ = refl; iris = refl }
 
 -- why an insert is refused
-pub inserted-bad_label : (label iri : Text) (table : PrefixesValue) → (inserted label iri table ≡ Err (BadLabel table.labels)) ↔ IsFalse (is_label table.labels label)
+pub inserted-bad_label : (label iri : Text) (table : PrefixesValue) → (inserted label iri table ≡ Err BadLabel) ↔ IsFalse (is_label table.labels label)
 unfolding inserted
 inserted-bad_label label iri table = grind arith
 

@@ -90,7 +90,7 @@ abbrev added : PrefixEntry → Result PrefixesValue InsertRefusal
 added e = Ok (ascii_table (entries ++ e ∷ []))
 
 abbrev inserts : List (String × Result PrefixesValue InsertRefusal)
-inserts = ("x", added (entry "x" "s:")) ∷ ("EX", added (entry "EX" "s:")) ∷ ("ex", Err Taken) ∷ ("w", Err Taken) ∷ ("1", Err (BadLabel Ascii)) ∷ ("", Err (BadLabel Ascii)) ∷ []
+inserts = ("x", added (entry "x" "s:")) ∷ ("EX", added (entry "EX" "s:")) ∷ ("ex", Err Taken) ∷ ("w", Err Taken) ∷ ("1", Err BadLabel) ∷ ("", Err BadLabel) ∷ []
 
 inserts_hold : map (λ row. inserted (codes row.0) (codes "s:") table) inserts ≡ map (λ row. row.1) inserts
 unfolding is_ascii_label inserted inserted_all

@@ -11,7 +11,7 @@ use Rattle.iref.proofs.PrefixLemmas.{is_taken-get, longest_fit-is, table-new, ta
 
 -- ---- inserts
 
-pub no_label : (label iri : Text) (table : PrefixesValue) → is_label table.labels label ≡ false → inserted label iri table ≡ Err (BadLabel table.labels)
+pub no_label : (label iri : Text) (table : PrefixesValue) → is_label table.labels label ≡ false → inserted label iri table ≡ Err BadLabel
 unfolding inserted
 no_label label iri table h = grind arith
 
@@ -34,7 +34,7 @@ stays_table label iri table t full h k = table-new label iri table (record table
 
 -- ---- replacements
 
-pub not_replaced : (label iri : Text) (table : PrefixesValue) → is_label table.labels label ≡ false → replaced label iri table ≡ Err (BadLabel table.labels)
+pub not_replaced : (label iri : Text) (table : PrefixesValue) → is_label table.labels label ≡ false → replaced label iri table ≡ Err BadLabel
 unfolding replaced
 not_replaced label iri table h = grind arith
 

@@ -15,7 +15,7 @@ compact_value c = record { label = c.label.now; rest = c.rest.now }
 
 -- an insert is refused for this reason, or is out of memory
 abbrev pub RefusesInsert : Result PrefixesValue InsertRefusal → PrefixFault → Type 0
-RefusesInsert answer (BadLabel labels) = answer ≡ Err (table.BadLabel labels)
+RefusesInsert answer BadLabel = answer ≡ Err table.BadLabel
 RefusesInsert answer Taken = answer ≡ Err table.Taken
 RefusesInsert answer prefix_fault.Memory = IsOk answer
 

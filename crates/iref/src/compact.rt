@@ -27,9 +27,9 @@ use thiserror::Error;
 /// Why an entry cannot be inserted, as one under the label `1x`.
 #[derive(Clone, Copy, Debug, PartialEq, Eq, Error)]
 pub enum PrefixFault {
-    /// The label is outside the rule of the table's labels, which is this one.
-    #[error("{0}")]
-    BadLabel(Labels),
+    /// The label is outside the rule of the table's labels, which `Prefixes::labels` returns.
+    #[error("the label is outside the rule of the table's labels")]
+    BadLabel,
     /// The label has an entry.
     #[error("the label is taken")]
     Taken,
@@ -136,6 +136,13 @@ impl Prefixes {
         Prefixes { rule, table }
     }
 
+    /// Which labels the table takes: of `Prefixes::new`, `Labels::Ascii`.
+    pub fn labels(&self) -> Labels
+        ensures { result ≡ self.now.labels }
+    {
+        self.rule
+    }
+
     /// How many entries the table has: after one `insert`, 1.
     pub fn len(&self) -> usize
         ensures { result ≡ length self.now.entries }
@@ -171,7 +178,7 @@ impl Prefixes {
         ensures unchanged { OnErr result (self.new ≡ self.old) }
     {
         if !self.rule.allow(label) {
-            return Err(PrefixFault::BadLabel(self.rule));
+            return Err(PrefixFault::BadLabel);
         }
         if self.table.find(label).is_some() {
             return Err(PrefixFault::Taken);
@@ -197,7 +204,7 @@ impl Prefixes {
         ensures unchanged { OnErr result (self.new ≡ self.old) }
     {
         if !self.rule.allow(label) {
-            return Err(PrefixFault::BadLabel(self.rule));
+            return Err(PrefixFault::BadLabel);
         }
         let was = self.table.replace(label, iri.as_str())?;
         if !was {

@@ -47,7 +47,7 @@ pub fn inserting_keeps_the_earlier_entries()
 /// the label has an entry.
 pub fn inserting_refuses_bad_and_taken_labels()
     ensures bad_label { (label iri : Text) (table : PrefixesValue)
-        → (inserted label iri table ≡ Err (BadLabel table.labels))
+        → (inserted label iri table ≡ Err BadLabel)
         ↔ IsFalse (is_label table.labels label) }
     ensures taken { (label iri : Text) (table : PrefixesValue)
         → (inserted label iri table ≡ Err Taken)
@@ -101,7 +101,7 @@ pub fn replacing_keeps_the_order_of_labels()
         → is_taken label table.entries ≡ false
         → replaced label iri table ≡ inserted label iri table }
     ensures bad_label { (label iri : Text) (table : PrefixesValue)
-        → (replaced label iri table ≡ Err (BadLabel table.labels))
+        → (replaced label iri table ≡ Err BadLabel)
         ↔ IsFalse (is_label table.labels label) }
 {}
 

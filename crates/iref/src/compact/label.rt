@@ -22,7 +22,7 @@ pub enum Labels {
 impl fmt::Display for Labels {
     fn fmt<W: fmt::Write>(&self, f: &mut fmt::Formatter<W>) -> fmt::Result {
         f.write_str(match self {
-            Labels::Ascii => "a label is a letter, then letters, digits, - and _",
+            Labels::Ascii => "a label is an ASCII letter, then ASCII letters, digits, - and _",
             Labels::Turtle => "a label is empty, or in PN_PREFIX of Turtle",
             Labels::Any => "a label is a text without a colon",
         })

@@ -37,7 +37,7 @@ fn insert_field(table: &mut Prefixes, field: &[u8]) -> Result<(), FieldError>
     };
     match table.insert(label, iri) {
         Ok(()) => Ok(()),
-        Err(PrefixFault::BadLabel(_)) => Err(FieldError::Invalid),
+        Err(PrefixFault::BadLabel) => Err(FieldError::Invalid),
         Err(PrefixFault::Taken) => Err(FieldError::Invalid),
         Err(PrefixFault::Memory) => Err(FieldError::Memory),
     }
