@@ -43,7 +43,8 @@ impl<'a, R: Refuses<&'a [u8]>, C: CharSet> BorrowedText<'a, R, C> {
 }
 
 impl<'a, R: Rule, C: CharSet> BorrowedText<'a, R, C> {
-    /// The text, which is known to be in the rule, as `b` is a segment. Nothing is read.
+    /// The value of a text that the caller proves to be in the rule, as `b` is a segment. Nothing is
+    /// read.
     pub fn new_unchecked(text: &'a str) -> Self
         requires { R.test C.tests text.now ≡ true }
         ensures { text_of result ≡ text.now }

@@ -33,7 +33,8 @@ use std::hash::Hash;
 pub type Path<'a, C> = BorrowedText<'a, PathRule, C>;
 
 impl<S: Storage, C: CharSet> RuleText<S, PathRule, C> {
-    /// Whether the path has no segments: `/` and the empty path have none, `//` has two.
+    /// Whether the path has no segments. It is true of `/`, whose text is not empty, and of the empty
+    /// path; `//` has two segments, both empty.
     #[tactic(auto, using(iref_path::proofs::SlashLemmas::some_pieces))]
     pub fn is_empty(&self) -> bool
         ensures { result ≡ is_empty (path_value self.now).segments }

@@ -163,9 +163,10 @@ impl<'a, C: CharSet, T: Target<PathPart, C>> PathMut<'a, C, T> {
         self.apply(step)
     }
 
-    /// Removes the last segment: `/a/b` becomes `/a`, and `//a` becomes `/./`. A path that ends in
-    /// `..`, or a relative one without segments, gains a `..`. Out of memory, it returns `Memory`
-    /// and changes nothing.
+    /// Removes the last segment: `/a/b` becomes `/a`, and `//a` becomes `/./`. `/` stays as it is. A
+    /// path that ends in `..` gains a `..`, and so does a relative one without segments: `../..`
+    /// becomes `../../..`, and the empty path `..`. Out of memory, it returns `Memory` and changes
+    /// nothing.
     pub fn pop(&mut self) -> Result<(), Memory>
         ensures { Edits step.popped self.old self.new result }
     {

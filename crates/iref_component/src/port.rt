@@ -28,7 +28,8 @@ impl<S: Storage> RuleText<S, PortRule, UriChars> {
         u8::try_from(self.as_borrowed()).ok()
     }
 
-    /// The number, if it fits a `u16`: of `80` 80, of `65536` None.
+    /// The number, if it fits a `u16`: of `80` and of `0080` it is 80; of `65536` and of the empty port
+    /// None.
     pub fn as_u16(&self) -> Option<u16>
         ensures { result ≡ result_ok (port_number (2 ^ 16) (text_of self.now)) }
     {

@@ -47,7 +47,8 @@ impl<R: HeldRule, C: CharSet> Reference<'_, R, C> {
     /// `HTTP://h/x/../docs/`, not `http://h/docsx`. Below `http://h/` is each URI of this authority
     /// with an absolute path, below `http://h` only it itself with or without a query and a
     /// fragment, and below `http://h/docs/`, which ends in an empty segment, not `http://h/docs/a`.
-    /// Out of memory, it returns `Memory`.
+    /// It says nothing of files: `http://h/docs//../admin` is below `http://h/docs`, and leads out of
+    /// it on a disk, where `//` is `/`. Out of memory, it returns `Memory`.
     pub fn sort_range(&self, alloc: Global) -> Result<Range<SortKey>, Memory>
         ensures start { IfOk result (λ range. range.start
             ≡ sort_prefix (key_of_reference self.now)) }

@@ -9,7 +9,7 @@ use iref_reference::owned::UriBuf;
 use std::alloc::Global;
 use url::{ParseError, Url};
 
-/// What has a URL: `Uri`, `UriBuf`, `Iri` and `IriBuf`.
+/// What has a URL: `Uri`, `UriBuf`, `Iri` and `IriBuf`. `use iref_url::ToUrl;` brings the call.
 pub trait ToUrl {
     /// Its text.
     ghost text: { Self → Text };
