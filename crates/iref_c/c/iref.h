@@ -108,9 +108,9 @@ uint32_t iref_fault(const char *text, size_t length, struct iref_place *place);
  * written, and the segments `.` and `..` are removed as by iref_normalize_path (RFC 3986 section 6.2.2.3). Then schemes
  * are compared without regard to case (6.2.2.1), and elsewhere every escape as the byte that it stands for. So `?a%26b`
  * equals `?a&b`, which section 2.2 keeps apart; but `/a%2Fb` is not equal to `/a/b`, nor `/a/%2E%2E/b` to `/b`, which other
- * programs may take for the same: whoever checks that a path stays in a folder refuses `%2E` and `%2F` first. Hosts keep
- * their case, which section 6.2.2.1 ignores, and no rule of a scheme is used. Relative references that are equal may
- * resolve to different URIs: `a/..` and the empty one are equal, and so are `%2E%2E/x` and `../x`.
+ * programs may take for the same: see iref_sort_range. Hosts keep their case, which section 6.2.2.1 ignores, and no rule of
+ * a scheme is used. Relative references that are equal may resolve to different URIs: `a/..` and the empty one are equal,
+ * and so are `%2E%2E/x` and `../x`.
  *
  * The calls agree: two references are equal exactly where their order is 0, and equal ones have one hash. Each answers
  * IREF_OK, IREF_INVALID or IREF_SECOND_INVALID. */
@@ -189,7 +189,12 @@ uint32_t iref_sort_key(const char *reference, size_t reference_length, char *out
  * are: an index tests `key >= ? AND key < ?`. They are also those that begin with the *needed - 1 bytes. Below
  * `http://h/docs` are it itself, `http://h/docs/a`, `http://h/docs?q` and `HTTP://h/x/../docs/`, not `http://h/docsx`.
  * Below `http://h/` is all of this authority with an absolute path, below `http://h` only it itself with or without a query
- * and a fragment, and below `http://h/docs/`, which ends in an empty segment, not `http://h/docs/a`. */
+ * and a fragment, and below `http://h/docs/`, which ends in an empty segment, not `http://h/docs/a`.
+ *
+ * That a text is below another does not say where its path leads on a disk or at a server: `http://h/docs//../admin/s`,
+ * `http://h/docs/..;/admin` and `http://h/docs/%2e%2E/x` are below `http://h/docs`. Whoever checks that a path stays in a
+ * folder takes what iref_resolve writes, passes this on and not the text that was tested, and refuses each segment that is
+ * empty, `.` or `..` when it is decoded and cut at its first `;`, or that holds `/`, `\` or a byte 0 when it is decoded. */
 uint32_t iref_sort_range(const char *reference, size_t reference_length, char *out, size_t out_length, size_t *needed);
 
 #ifdef __cplusplus

@@ -172,8 +172,10 @@ static void check_below(const char *text, const char *above, int wanted) {
 
 static void check_ranges(void) {
     static const char *const BELOW[] = {"http://h/docs", "http://h/docs/a", "http://h/docs?q", "HTTP://h/x/../docs/"};
+    static const char *const UNSAFE[] = {"http://h/docs//../admin/s", "http://h/docs/..;/admin", "http://h/docs/%2e%2E/x"};
     static const char *const OTHERS[] = {"http://h/docsx", "http://h/doc", "http://h/", "http://i/docs/a", "/docs/a", ""};
     for (size_t i = 0; i < COUNT(BELOW); i++) check_below(BELOW[i], "http://h/docs?r#f", 1);
+    for (size_t i = 0; i < COUNT(UNSAFE); i++) check_below(UNSAFE[i], "http://h/docs", 1);
     for (size_t i = 0; i < COUNT(OTHERS); i++) check_below(OTHERS[i], "http://h/docs", 0);
     check_below("http://h/docs", "http://h/", 1);
     check_below("http://h/docs", "http://h", 0);
