@@ -1,4 +1,4 @@
-//! A crawler's list of URLs, sorted and made unique: owned, and borrowed.
+//! A list of URLs, sorted and made unique by their keys: owned, and borrowed.
 use crate::digest::Digest;
 use crate::made::Numbers;
 use crate::names::put_path;
