@@ -139,7 +139,6 @@ fn are_scanned_components<C: CharSet>(slices: ReferenceSlices<'_>) -> bool
 
 // Whether the authority, which is encoded, is in its rule. Up to the first `:` or `@` it is a
 // registered name.
-#[inline(always)]
 #[tactic(auto, using(crate::proofs::PlainTextLemmas::encoded_authority))]
 fn is_encoded_authority<C: CharSet>(part: Option<&str>) -> bool
     requires { none_or (are_encoded (is_authority_char C.tests)) (option_copied part) ≡ true }
