@@ -2,8 +2,7 @@
  * URIs and IRIs, as RFC 3986 and RFC 3987 say, for C.
  *
  * Texts. A text is a pointer to its first byte and its length in bytes. It need not end in a byte of value 0, and any
- * bytes may stand in it. Bytes that are not UTF-8 are in no rule, so each call but iref_fault refuses them. Nothing is kept
- * between calls, so they may run in several threads at once.
+ * bytes may stand in it. Bytes that are not UTF-8 are in no rule, so each call but iref_fault refuses them.
  *
  * Families. Each URI is an IRI, and each reference of URIs one of IRIs, so the calls on IRIs serve for URIs: of URIs they
  * answer URIs. iref_parse_uri and iref_parse_uri_reference say whether a text is of the narrower family.
@@ -15,6 +14,11 @@
  * up to 16 that divides its size. iref_normalize_path, iref_to_uri, iref_canonical, iref_sort_key and iref_sort_range,
  * which alone take memory, are not called from a signal handler, nor in the forked child of a process with threads. Nothing
  * checks any of this.
+ *
+ * Threads. Nothing is kept between calls and no call waits for another, so any of them may run in several threads at once,
+ * on the same texts too. During a call no other thread writes its texts, or reads or writes its buffer or the memory for
+ * its results: two calls at once never share a buffer. malloc, realloc and free may be called in several threads at once,
+ * as those of the C library may. No call reads or sets errno, but malloc and realloc may set it.
  *
  * Results. A call answers a status, one of those below. Where it is not IREF_OK, nothing is written, except *needed at
  * IREF_SHORT.
