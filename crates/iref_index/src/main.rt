@@ -2,7 +2,9 @@
 //! table of the file, each under its sort key, and closes the file. It opens the file again, and
 //! answers each line, a URI: how many URIs of the table are below it, the first and the last of them.
 //! One range of the keys finds them, and is compared with what a scan of all URIs by `suffix` finds.
-//! A file that is no database, or that has another table of the name, is refused and not written.
+//! Only LF ends a line; one that is no URI, or is not UTF-8, is answered `error invalid`.
+//! A file that is no database, or that has another table of the name, is refused and not written. After
+//! a run that was killed at any of its writes the next one answers.
 #![tactic(auto)]
 
 mod made;
@@ -13,6 +15,7 @@ use iref::Memory;
 use iref::uri::{Uri, UriBuf};
 use std::alloc::Global;
 use std::env;
+use std::io::BufRead;
 use table::Table;
 
 // The URIs that have a suffix after this one, in their order, one for each key.
@@ -36,8 +39,13 @@ fn are_same(texts: &[String], uris: &[Uri<'_>]) -> bool {
     same
 }
 
-fn answer(alloc: Global, table: &mut Table, uris: &[UriBuf], line: &str) -> Result<String> {
-    let Ok(above) = Uri::new(line) else {
+// The URI that a line is, if it is one.
+fn uri_of(line: &[u8]) -> Option<Uri<'_>> {
+    Uri::new(str::from_utf8(line).ok()?).ok()
+}
+
+fn answer(alloc: Global, table: &mut Table, uris: &[UriBuf], line: &[u8]) -> Result<String> {
+    let Some(above) = uri_of(line) else {
         return Ok(format!(in alloc; "error invalid")?);
     };
     let found = table.below(alloc, above)?;
@@ -54,9 +62,9 @@ fn answer(alloc: Global, table: &mut Table, uris: &[UriBuf], line: &str) -> Resu
 }
 
 fn answer_lines(rt: &HostRuntime, table: &mut Table, uris: &[UriBuf]) -> Result<()> {
-    for line in rt.lines(rt.alloc()) {
+    for line in rt.reader().split(rt.alloc(), b'\n') {
         let line = line?;
-        let answer = answer(rt.alloc(), table, uris, line.as_str())?;
+        let answer = answer(rt.alloc(), table, uris, line.as_slice())?;
         println!(rt; "{answer}")?;
     }
     Ok(())

@@ -19,12 +19,42 @@ const PUT: &str = "INSERT OR REPLACE INTO uri (key, text) VALUES (?1, ?2)";
 
 const BELOW: &str = "SELECT text FROM uri WHERE key >= ?1 AND key < ?2 ORDER BY key";
 
+// What SQLite adds to a file's name for its log, and for the journal that only sqlite3 plays back.
+const LOG: &str = "-wal";
+
+const JOURNAL: &str = "-journal";
+
 // A log that holds a page has a head of its own, one of the page, and at least 512 bytes of page.
 const LEAST_LOG: u64 = 32 + 24 + 512;
 
-// Refuses what is no file, as a pipe, which would wait for a writer, and a file that is not empty and
-// does not begin as a database does.
-fn test_front(rt: &HostRuntime, path: &str) -> Result<()> {
+// The path of what SQLite keeps beside a file, or beside the one that a link leads to.
+fn beside(rt: &HostRuntime, path: &str, suffix: &str) -> io::Result<String> {
+    let file = fs::canonicalize(rt, path)?;
+    Ok(format!(in rt.alloc(); "{}{suffix}", file.as_str())?)
+}
+
+// Whether it stands there. Nothing is kept beside a file that is not there.
+fn stands_beside(rt: &HostRuntime, path: &str, suffix: &str) -> io::Result<bool> {
+    if !fs::exists(rt, path)? {
+        return Ok(false);
+    }
+    let other = beside(rt, path, suffix)?;
+    fs::exists(rt, other.as_str())
+}
+
+// Whether a file that begins with these bytes may be a database. In a new file the first byte is 0 until
+// the rest of the first page is written, and the log is there before it. After a kill at that time SQLite
+// finds in the log that the file is half made, and refuses any other file.
+fn may_be_database(front: &[u8], has_log: bool) -> bool {
+    match front {
+        [] => true,
+        [0, ..] => has_log,
+        _ => front == HEAD,
+    }
+}
+
+// Refuses what is no file, as a pipe, which would wait for a writer, and a file that cannot be a database.
+fn test_front(rt: &HostRuntime, path: &str, has_log: bool) -> Result<()> {
     if !fs::exists(rt, path).context(format_args!("cannot open {path}"))? {
         return Ok(());
     }
@@ -36,16 +66,15 @@ fn test_front(rt: &HostRuntime, path: &str) -> Result<()> {
         .take(16)
         .read_to_end(&mut front)
         .context(format_args!("cannot read {path}"))?;
-    let may_be_database = front.is_empty() || front.as_slice() == HEAD;
-    ensure!(may_be_database, "{path} is no database");
+    let is_accepted = may_be_database(front.as_slice(), has_log);
+    ensure!(is_accepted, "{path} is no database");
     Ok(())
 }
 
 // Removes the log that SQLite has left beside a file, unless it holds a page. Whoever calls this has the
 // file open, so that it is locked, and the log is no one else's.
 fn remove_log(rt: &HostRuntime, path: &str) -> io::Result<()> {
-    let file = fs::canonicalize(rt, path)?;
-    let log = format!(in rt.alloc(); "{}-wal", file.as_str())?;
+    let log = beside(rt, path, LOG)?;
     if fs::metadata(rt, log.as_str())?.len() < LEAST_LOG {
         fs::remove_file(rt, log.as_str())?;
     }
@@ -60,6 +89,15 @@ fn is_refusal(error: &Error) -> bool {
     )
 }
 
+// What to do about a file that is not opened because of the journal beside it.
+fn advice(rt: &HostRuntime, path: &str, error: &Error) -> &'static str {
+    let is_unopened = matches!(error, Error::SqliteFailure(ErrorCode::CannotOpen));
+    if is_unopened && stands_beside(rt, path, JOURNAL).unwrap_or(false) {
+        return ", which has a rollback journal: open it with sqlite3 first";
+    }
+    ""
+}
+
 /// The table of a file.
 #[derive(Drop)]
 pub struct Table {
@@ -67,18 +105,20 @@ pub struct Table {
 }
 
 impl Table {
-    /// Opens a file, which is made where there is none. The error names a file that cannot be opened, or
-    /// that is no database; nothing is written then.
+    /// Opens a file, which is made where there is none, and completed where a run was killed as it made
+    /// it. The error names a file that cannot be opened, or that is no database; nothing is written then.
     pub fn open(rt: &HostRuntime, path: &str) -> Result<Table> {
-        test_front(rt, path)?;
+        let has_log = stands_beside(rt, path, LOG).context(format_args!("cannot open {path}"))?;
+        test_front(rt, path, has_log)?;
         match Connection::open_from(rt, path, false, Unknown) {
             Ok(conn) => Ok(Table { conn }),
             Err((error, left)) => {
                 // What is left is the open file.
-                if left.is_some() && is_refusal(&error) {
+                if left.is_some() && is_refusal(&error) && !has_log {
                     let _ = remove_log(rt, path);
                 }
-                Err(error).context(format_args!("cannot open {path}"))
+                let advice = advice(rt, path, &error);
+                Err(error).context(format_args!("cannot open {path}{advice}"))
             }
         }
     }
