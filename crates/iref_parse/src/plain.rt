@@ -116,7 +116,7 @@ pub(crate) fn plain_first(bytes: &[u8]) -> usize
 
 /// How many bytes stand first that are such a byte or, in UTF-8, one of a character from U+00C0 to
 /// U+D7FF.
-#[inline(always)]
+#[inline]
 #[tactic(auto, using(crate::proofs::PlainLemmas::common_front))]
 pub(crate) fn common_first(bytes: &[u8]) -> usize
     ensures { result ≡ prefix_len plain.is_common_byte bytes.now }
