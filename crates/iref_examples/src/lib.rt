@@ -15,6 +15,7 @@ pub mod cache;
 pub mod chosen;
 pub mod context;
 pub mod editors;
+pub mod inside;
 pub mod mapping;
 pub mod mirror;
 pub mod validator;
