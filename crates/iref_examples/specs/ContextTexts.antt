@@ -1,7 +1,10 @@
 -- What texts of a JSON-LD document stand for, by a context.
-use Rattle.std.specs.Prelude.{◌≡◌, MatchOption, Bool, false, ◌++◌, Option, Some, None, Result, Ok, Err, codes, option_and_then, if◌then◌else◌}
+use Rattle.std.specs.Prelude.{◌≡◌, MatchOption, Bool, false, ◌++◌, Option, Some, None, Result, Ok, Err, String, codes}
+use Rattle.std.specs.{Prelude.{option_and_then, option_map, if◌then◌else◌}, BTreeMap.{BTreeMap, get_by_text}}
 use Rattle.iref.specs.{Characters.{iri_chars}, Grammar.{colon}}
-use Rattle.iref.specs.PrefixTable.{PrefixTable, ExpandRefusal, NoColon, UnknownLabel, NotAnIri, expanded, if_iri, get}
+use Rattle.iref.specs.PrefixTable.{PrefixTable, ExpandRefusal, NoColon, UnknownLabel, NotAnIri, expanded, if_iri}
+use Rattle.iref.specs.References.{reference_buf_text}
+use Rattle.iref_reference.specs.declared.owned.ReferenceBuf.{ReferenceBuf}
 use Rattle.iref.specs.{Reference.{is_uri, is_reference}, Resolutions.{IsResolved}, Rules.{Text}}
 use Rattle.iref.specs.Texts.{after, begins_with}
 
@@ -35,11 +38,18 @@ or_unknown (Err NotAnIri) other = None
 abbrev pub itself_or_behind : Option Text → Text → Option Text
 itself_or_behind front text = or_else (itself text) (option_and_then (λ f. itself (f ++ text)) front)
 
--- a name of a property or of a type: a term, a compact IRI, an IRI, or what stands behind `@vocab`
-abbrev pub named : PrefixTable → Option Text → Text → Option Text
-named terms vocabulary text =
-    or_else (get text terms)
-    (or_unknown (by_colon terms text) (itself_or_behind vocabulary text))
+-- what the terms have for a text: nothing, null, or an IRI
+abbrev pub term_of : {R C K Y : _} → BTreeMap (String Y) (Option (ReferenceBuf R C K)) → Text → Option (Option Text)
+term_of terms text = option_map (λ term. option_map reference_buf_text term) (get_by_text terms text)
+
+-- the term's IRI, nothing for one that is null, or for other texts this
+abbrev pub by_term : Option (Option Text) → Option Text → Option Text
+by_term None other = other
+by_term (Some term) other = term
+
+-- a name of a property: a term, a compact IRI, an IRI, or what stands behind `@vocab`
+abbrev pub named : Option (Option Text) → PrefixTable → Option Text → Text → Option Text
+named term prefixes vocabulary text = by_term term (or_unknown (by_colon prefixes text) (itself_or_behind vocabulary text))
 
 -- this IRI, or what the text resolves to against the base; nothing where it is no reference
 abbrev pub OrResolved : Option Text → Text → Text → Option Text → Type 0
@@ -52,3 +62,9 @@ IsLocated (Ok iri) base text found = found ≡ Some iri
 IsLocated (Err NotAnIri) base text found = found ≡ None
 IsLocated (Err NoColon) base text found = OrResolved (itself text) base text found
 IsLocated (Err UnknownLabel) base text found = OrResolved (itself text) base text found
+
+-- a type: as a name of a property, but without `@vocab` as a text of `@id`, if it is no term
+abbrev pub IsTyped : Option (Option Text) → PrefixTable → Option Text → Text → Text → Option Text → Type 0
+IsTyped (Some term) prefixes vocabulary base text found = found ≡ term
+IsTyped None prefixes (Some front) base text found = found ≡ named None prefixes (Some front) text
+IsTyped None prefixes None base text found = IsLocated (by_colon prefixes text) base text found
