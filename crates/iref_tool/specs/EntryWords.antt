@@ -1,7 +1,8 @@
 -- The prefix tables of words `LABEL=IRI`, and what is made short and expanded by them.
 use Rattle.std.specs.Prelude.{List, [], Option, None, Some, Result, Ok, Err, codes}
 use Rattle.iref.specs.{PrefixTable.{PrefixEntry, PrefixesValue, CompactValue, InsertRefusal, ExpandRefusal}, Rules.{Text}}
-use Rattle.iref.specs.PrefixTable.{BadLabel, Taken, NoColon, UnknownLabel, NotAnIri, ascii_table, compact_text, compacted, expanded, inserted}
+use Rattle.iref.specs.PrefixTable.{BadLabel, Taken, NoColon, UnknownLabel, NotAnIri, compact_text, compacted, expanded, inserted}
+use Rattle.iref.specs.declared.compact.label.Labels.TheVariants.{Turtle}
 use Rattle.iref_batch.specs.Lines.{Answered, read_entry}
 use Rattle.iref_tool.specs.Replies.{Refuses, Reply, WrongWord, and_then, if_iri, read_all}
 use Rattle.iref_tool.specs.declared.refusal.Reason.TheVariants as reason
@@ -24,9 +25,13 @@ with_entry_read table word (Some e) = if_iri entry_argument word e.iri (taken wo
 abbrev pub with_entry : PrefixesValue → Text → Result PrefixesValue WrongWord
 with_entry table word = with_entry_read table word (read_entry word)
 
+-- no entry, and the labels of Turtle
+abbrev pub turtle_table : PrefixesValue
+turtle_table = record { labels = Turtle; entries = [] }
+
 -- the table of the entries of words, or the first word that is wrong
 abbrev pub table_of_words : List Text → Result PrefixesValue WrongWord
-table_of_words words = read_all with_entry (ascii_table []) words
+table_of_words words = read_all with_entry turtle_table words
 
 abbrev pub or_no_prefix : Text → Option CompactValue → Reply
 or_no_prefix iri None = Err (Refuses (codes "IRI") iri reason.NoPrefix)

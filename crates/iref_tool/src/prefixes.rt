@@ -8,7 +8,7 @@ ghost use Rattle.iref_tool.specs.Replies.{EndsAs, Returns};
 
 use crate::read::iri_at_end;
 use crate::refusal::{Reason, Refusal};
-use iref::compact::{ExpandFault, PrefixFault, Prefixes};
+use iref::compact::{ExpandFault, Labels, PrefixFault, Prefixes};
 use iref::iri::Iri;
 use iref_parse::cut::cut;
 use std::alloc::Global;
@@ -38,7 +38,7 @@ fn table_of<'a>(alloc: Global, entries: &[&'a str]) -> Result<Prefixes, Refusal<
     ensures { Returns (λ (table : PrefixesValue). table)
         (table_of_words (map (λ word. word.now) entries.now)) result }
 {
-    let mut table = Prefixes::new(alloc);
+    let mut table = Prefixes::with_labels(alloc, Labels::Turtle);
     for entry in entries {
         insert(&mut table, *entry)?;
     }
