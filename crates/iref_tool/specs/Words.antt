@@ -1,5 +1,5 @@
 -- The words of a command, why some are refused, and what the program ends with then.
-use Rattle.std.specs.Prelude.{◌≡◌, ◌-◌, List, [], length, Option, None, Some, Result, MatchResult, option_map, unwrap_or}
+use Rattle.std.specs.Prelude.{◌≡◌, ◌-◌, Bool, false, List, [], length, Option, None, Some, Result, MatchResult, bytes_eq, codes, option_map, unwrap_or}
 use Rattle.clap.specs.{declared.parser.matches.Found.{Found}, Words.{first_value, matched_of, raw_values}}
 use Rattle.iref.specs.{BytePlaces.{fault_value}, Faults.{FaultValue}, Rules.{Text}}
 use Rattle.iref_fault.specs.declared.fault.Fault.{Fault}
@@ -15,6 +15,10 @@ word found id = unwrap_or (first_value found id) []
 
 abbrev pub words : Found → Text → List Text
 words found id = unwrap_or (option_map raw_values (matched_of found id)) []
+
+-- whether an option without a value was given
+abbrev pub is_given : Found → Text → Bool
+is_given found id = unwrap_or (option_map (λ given. bytes_eq given (codes "true")) (first_value found id)) false
 
 -- the text was read, or it is outside its rule
 abbrev pub ReadsText : {R C K r k c : _} → Option FaultValue → Text → Result (Reference R C K r k c) Fault → Type 0

@@ -1,7 +1,7 @@
 //! The words of the command.
 ghost use Rattle.std.specs.Prelude.{◌≡◌, map};
 ghost use Rattle.clap.specs.Words.{found_of};
-ghost use Rattle.iref_tool.specs.Words.{word, words};
+ghost use Rattle.iref_tool.specs.Words.{is_given, word, words};
 
 use clap::{Arg, ArgAction, ArgMatches, Command};
 use std::alloc::{AllocError, Global};
@@ -10,13 +10,36 @@ use std::alloc::{AllocError, Global};
 const VERSION: &str = "after 0.1.0";
 
 /// What an edit is.
-const EDITS: &str = "\
+pub const EDITS: &str = "\
 scheme, authority, user, port, query or fragment, with =VALUE or to remove it; replace-authority,
 host, path, normal-path, push, lazy-push or join, with =VALUE; pop, clear or normalize";
+
+/// Which texts are equal.
+const EQUAL: &str = "\
+Texts are equal by their keys, which leave out dot segments, the case of the scheme, and whether a
+character is escaped. So %26 and & are equal, and %2B and +, which servers tell apart.";
+
+/// What `below` does not say.
+const BELOW: &str = "\
+This compares URIs. It does not say where a path leads on a disk: http://h/docs//../admin is below
+http://h/docs.";
+
+/// The verbs of lines.
+const VERBS: &str = "\
+The verbs, with a TAB before each text:
+  parts URI               normal PATH              equal FIRST SECOND
+  resolve REFERENCE BASE  relative TARGET BASE     relativized TARGET BASE
+  edit URI EDIT...        to-uri IRI               compact IRI LABEL=IRI...
+  expand TEXT LABEL=IRI...
+  check TEXT              fault TEXT               canonical TEXT
+  key TEXT                put URI VALUE            get URI
+  prefix LABEL IRI        shorten IRI              expand TEXT
+  relink PAGE LINK";
 
 /// What stands below the help.
 const EXAMPLES: &str = "\
 A FILE has one text on each line; - and no FILE are standard input. Only LF ends a line.
+Without words iref answers lines, unless standard input is a terminal.
 
 Examples:
   iref parts 'http://h/a?q'
@@ -84,13 +107,23 @@ fn arguments_of(name: &str) -> &'static [&'static str] {
     }
 }
 
+// What stands below the help of a command.
+fn more_help_of(name: &str) -> &'static str {
+    match name {
+        "equal" | "canonical" | "key" | "sort" | "unique" => EQUAL,
+        "below" => BELOW,
+        "lines" => VERBS,
+        _ => "",
+    }
+}
+
 // What an argument is.
 fn help_of(id: &str) -> &'static str {
     match id {
         "IRI" => "An IRI",
         "PATH" => "A path, such as a/../b",
         "EDIT" => EDITS,
-        "LABEL=IRI" => "A label, and the IRI that it stands for",
+        "LABEL=IRI" => "A prefix of Turtle, which may be empty, and the IRI that it stands for",
         "TEXT" => "A label, a colon and the rest, such as ex:a",
         "PREFIX" => "A URI such as http://h/docs, with no / at its end; http://h/ is all of a host",
         "FILE" => "A text on each line; - is standard input",
@@ -145,7 +178,9 @@ fn subcommand<'a>(
     name: &'static str,
     about: &'static str,
 ) -> Result<Command<'a>, AllocError> {
-    let command = Command::new(alloc, name).about(about);
+    let command = Command::new(alloc, name)
+        .about(about)
+        .after_help(more_help_of(name));
     match name {
         "resolve" => with_base(
             command,
@@ -186,9 +221,31 @@ pub fn word_of<'m, 'w: 'm>(matches: &'m ArgMatches<'w>, id: &str) -> &'m str
     }
 }
 
+/// Whether an option without a value was given.
+pub fn is_given(matches: &ArgMatches<'_>, id: &str) -> bool
+    ensures { result ≡ is_given (found_of matches.now) id.now }
+{
+    match matches.get_str(id) {
+        Some(given) => given == "true",
+        None => false,
+    }
+}
+
 /// The words that stand for an argument; none where it is not there.
 pub fn words_of<'m, 'w: 'm>(matches: &'m ArgMatches<'w>, id: &str) -> &'m [&'m str]
     ensures { map (λ word. word.now) result.now ≡ words (found_of matches.now) id.now }
 {
     matches.get_strs(id).unwrap_or(&[])
+}
+
+/// The files, which stand behind a base where there is one; else standard input.
+pub fn files_of<'m, 'w: 'm>(matches: &'m ArgMatches<'w>) -> &'m [&'m str] {
+    let id = match matches.get_str("base") {
+        Some(_) => "WORD",
+        None => "FILE",
+    };
+    match words_of(matches, id) {
+        [] => &["-"],
+        files => files,
+    }
 }
