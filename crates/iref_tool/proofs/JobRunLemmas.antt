@@ -1,53 +1,62 @@
 -- What a job has written for a line, and for files.
-use Rattle.std.proofs.Common.{◌≡◌, ◌+◌, ◌<◌, ◌≤◌, ℕ, Bool, true, false, List, [], ◌∷◌, ◌++◌, Option, Some, None, IfSome, OnOk, Result, ap, arith, fold, length, map, max, option_map, refl, slice_index_or, subst, sym, take, ◌∙◌, inl, inr, append-nil}
+use Rattle.std.proofs.Common.{◌≡◌, ◌+◌, ◌<◌, ◌≤◌, ℕ, Bool, true, false, List, [], ◌∷◌, ◌++◌, Option, Some, None, IfSome, OnOk, Result, ap, arith, fold, length, map, max, option_map, refl, slice_index_or, subst, sym, take, ◌∙◌, inl, inr, append-nil, Ok, Err, OnErr, is_some}
 use Rattle.std.proofs.{lemmas.Grind.{common_steps}, lemmas.List.{map-append}, lemmas.List.Sums.{fold-append}}
 use Rattle.std.proofs.{KnownBytes.{Appends-kept, Appends-trans}, lemmas.Grind.{flat_map-append}}
-use Rattle.std.specs.{Borrow.{Bor}, Fmt.{with_newline as with_end}, Io.KnownBytes.{Appends, Keeps}}
-use Rattle.iref.specs.Rules.{Text}
+use Rattle.std.specs.{Borrow.{Bor}, Fmt.{with_newline as with_end}, Io.KnownBytes.{Appends, Keeps}, List.{concat}}
+use Rattle.iref.specs.{BytePlaces.{fault_value}, Rules.{Text}}
+use Rattle.iref_fault.specs.declared.component.Cause.{Cause}
+use Rattle.iref_fault.specs.declared.component.Cause.TheVariants as cause
 use Rattle.iref_batch.specs.{Gathering.{Gains, Writes}, Runs.{with_newline, with_newlines}, Statuses.{number_of}, StdStreams.{inner_of}}
 use Rattle.iref_batch.specs.declared.status.Status.{Status}
+use Rattle.std.specs.declared.io.Error.{Error}
 use Rattle.iref_batch.proofs.Writing.{gains_gathered, gains_written, writes_from_appends, writes_more}
-use Rattle.iref_tool.specs.JobRuns.{DoesFiles, DoesJob, StaysAt, TurnsWrong, all_text, next_number}
-use Rattle.iref_tool.specs.{Jobs.{IsFaultOf, Outcome, Written}, Notes.{note_text, text_for_wrong}, Streams.{GivesFile}}
-use Rattle.iref_tool.specs.declared.{jobs.LineFault.{LineFault}, jobs.LineFault.TheVariants.{Memory}, texts.Texts.{Texts}}
+use Rattle.iref_tool.specs.JobRuns.{DoesFiles, DoesJob, SaysWrong, StaysAt, TurnsWrong, next_number}
+use Rattle.iref_tool.specs.{Jobs.{IsFaultOf, Outcome, Written}, Notes.{IsFoundBy, MaySay, StandsForWrong, note_text}, Streams.{GivesFile}}
+use Rattle.iref_tool.specs.declared.{jobs.LineFault.{LineFault}, jobs.LineFault.TheVariants.{Invalid, NoReference, Memory}, texts.Texts.{Texts}}
 
--- what holds of a known text
-if_last : (P : Text → Type 0) (text : Option Text) → IfSome text P → IfSome (all_text (text ∷ [])) P
-if_last P None p = tt
-if_last P (Some text) p = subst P (sym (append-nil text)) p
-
-if_known : (P Q : Text → Type 0) (text : Option Text) → ((known : Text) → P known → Q known) → IfSome text P → IfSome text Q
-if_known P Q None f p = tt
-if_known P Q (Some text) f p = f text p
-
-if_mapped : (P : Text → Type 0) (f : Text → Text) (text : Option Text) → IfSome text (λ t. P (f t)) → IfSome (option_map f text) P
-if_mapped P f None p = tt
-if_mapped P f (Some text) p = p
-
-if_ended : (P : Text → Type 0) (text : Option Text) → IfSome (with_end text) P → IfSome text (λ t. P (with_newline t))
-if_ended P None p = tt
-if_ended P (Some text) p = p
+-- the text of a note is known
+note_is_known : (file : Text) (number : ℕ) (line : Text) (fault : LineFault) (found : Text) → (text : Text) × (note_text file number line fault found ≡ Some text)
+note_is_known file number line (Invalid fault) found = why_is_known (fault_value fault).cause refl
+  where
+    why_is_known : (c : Cause) → (fault_value fault).cause ≡ c → (text : Text) × (note_text file number line (Invalid fault) found ≡ Some text)
+    why_is_known cause.NoScheme is = (_, rw is refl)
+    why_is_known cause.NotUtf8 is = (_, rw is refl)
+    why_is_known (cause.Invalid component) is = (_, rw is refl)
+note_is_known file number line NoReference found = (_, refl)
+note_is_known file number line Memory found = (_, refl)
 
 -- what stands among the answers for a wrong line was gathered or written
-module _ (reports : Bool) (file : Text) (number : ℕ) (line : Text) (fault : LineFault) (before after : Option Text) (gathered gathered_then : Text) where
+module _ (reports : Bool) (file : Text) (number : ℕ) (line : Text) (fault said : LineFault) (found : Text) (may : MaySay fault said) (by : IsFoundBy said found) (before after : Option Text) (gathered gathered_then : Text) where
   abbrev pub IsSaid : Type 0
-  IsSaid = IfSome (text_for_wrong reports file number line fault) (λ text. Gains text before after gathered gathered_then)
+  IsSaid = SaysWrong reports file number line fault before after gathered gathered_then
 
-  said_by : (reported : Bool) → reports ≡ reported → IfSome (text_for_wrong reported file number line fault) (λ text. Gains text before after gathered gathered_then) → IsSaid
-  said_by reported is said = rw is said
+  says : (reported : Bool) → reports ≡ reported → (text : Text) → StandsForWrong reported file number line said text → Gains text before after gathered gathered_then → IsSaid
+  says reported is text stands gains = (said, may, text, rw is stands, gains)
 
-  -- the note goes elsewhere, and what was gathered is written
+  -- the note goes elsewhere
+  pub not_said_kept : reports ≡ false → gathered_then ≡ gathered → before ≡ after → IsSaid
+  not_said_kept elsewhere same kept = says false elsewhere [] refl (rw kept (gains_gathered [] after gathered gathered_then (same ∙ sym (append-nil gathered))))
+
+  -- and what was gathered is written
   pub not_said_written : reports ≡ false → gathered_then ≡ [] → Writes gathered before after → IsSaid
-  not_said_written elsewhere none written = said_by false elsewhere (gains_written [] before after gathered gathered_then none (rw append-nil written))
+  not_said_written elsewhere none written = says false elsewhere [] refl (gains_written [] before after gathered gathered_then none (rw append-nil written))
+
+  note : (text : Text) × (note_text file number line said found ≡ Some text)
+  note = note_is_known file number line said found
+
+  says_note : reports ≡ true → Gains (with_newline note.0) before after gathered gathered_then → IsSaid
+  says_note here gains = says true here (with_newline note.0) (note.0, (found, by, note.1), refl) gains
+
+  -- the note is gathered
+  pub said_gathered : reports ≡ true → IfSome (note_text file number line said found) (λ text. gathered_then ≡ gathered ++ with_newline text) → before ≡ after → IsSaid
+  said_gathered here pushed kept =
+      says_note here (rw kept (gains_gathered (with_newline note.0) after gathered gathered_then (subst (λ t. IfSome t (λ text. gathered_then ≡ gathered ++ with_newline text)) note.1 pushed)))
 
   -- what was gathered is written, and the note after it
-  pub said_printed : (mid : Option Text) → reports ≡ true → Writes gathered before mid → gathered_then ≡ [] → IfSome (with_end (note_text file number line fault)) (Appends mid after) → IsSaid
+  pub said_printed : (mid : Option Text) → reports ≡ true → Writes gathered before mid → gathered_then ≡ [] → IfSome (with_end (note_text file number line said found)) (Appends mid after) → IsSaid
   said_printed mid here written none printed =
-      let note = note_text file number line fault in
-      said_by true here (if_mapped (λ text. Gains text before after gathered gathered_then) with_newline note
-      (if_known (λ t. Appends mid after (with_newline t)) (λ t. Gains (with_newline t) before after gathered gathered_then) note
-      (λ t p. gains_written (with_newline t) before after gathered gathered_then none (writes_more gathered (with_newline t) before mid after written (writes_from_appends (with_newline t) mid after p)))
-      (if_ended (Appends mid after) note printed)))
+      let appended : Appends mid after (with_newline note.0) = subst (λ t. IfSome (with_end t) (Appends mid after)) note.1 printed in
+      says_note here (gains_written (with_newline note.0) before after gathered gathered_then none (writes_more gathered (with_newline note.0) before mid after written (writes_from_appends (with_newline note.0) mid after appended)))
 
 module _ {J W E : Type 0} {outcome : J → Text → Outcome} {goes_on : J → Option Text → J → Type 0} {contents : W → Option Text} {old new : Texts J W E} where
   -- nothing changed of what contracts speak of
@@ -75,8 +84,8 @@ module _ {J W E : Type 0} {outcome : J → Text → Outcome} {goes_on : J → Op
   -- the job has answered a line
   pub line_answered : (line text : Text) → outcome old.job line ≡ Written text → goes_on old.job (Some line) new.job → new.status ≡ old.status → new.file ≡ old.file → new.number ≡ next_number old.number → new.reports ≡ old.reports → new.out ≡ old.out → new.answers.items ≡ old.answers.items ++ text → DoesJob outcome goes_on contents old (Some line ∷ []) new
   line_answered line text is goes status file number reports out answers = record {
-    texts = Some text ∷ [];
-    does = (new.job, new.status, inl (text, is, refl, goes, status), (refl, refl));
+    texts = text ∷ [];
+    does = (new.job, new.status, inl (is, goes, status), (refl, refl));
     gains = rw (out, append-nil) (gains_gathered text (contents (inner_of old.out)) old.answers.items new.answers.items answers);
     file = file;
     numbers = number;
@@ -86,27 +95,30 @@ module _ {J W E : Type 0} {outcome : J → Text → Outcome} {goes_on : J → Op
 -- the same, where the state is known
 abbrev pub IsSaidOf : {J W E : Type 0} → (W → Option Text) → Text → LineFault → Texts J W E → Texts J W E → Type 0
 IsSaidOf contents line fault now new =
-    IsSaid now.reports now.file.now now.number line fault (contents (inner_of now.out)) (contents (inner_of new.out)) now.answers.items new.answers.items
+    SaysWrong now.reports now.file.now now.number line fault (contents (inner_of now.out)) (contents (inner_of new.out)) now.answers.items new.answers.items
 
 -- a line came in that is wrong
 module _ {J W E : Type 0} (contents : W → Option Text) (line : Text) (fault : LineFault) (old now new : Texts J W E) (status : now.status ≡ old.status) (file : now.file ≡ old.file) (number : now.number ≡ next_number old.number) (reports : now.reports ≡ old.reports) (out : now.out ≡ old.out) (answers : now.answers.items ≡ old.answers.items) (said : IsSaidOf contents line fault now new) where
-  abbrev pub said_of : Option Text
-  said_of = text_for_wrong old.reports old.file.now (next_number old.number) line fault
+  stands : StandsForWrong old.reports old.file.now (next_number old.number) line said.0 said.2
+  stands = rw (← reports, ← file, ← number) said.3
 
-  said_now : text_for_wrong now.reports now.file.now now.number line fault ≡ said_of
-  said_now = λ i. text_for_wrong (reports i) (file i).now (number i) line fault
-
-  gains_said : IfSome (all_text (said_of ∷ [])) (λ text. Gains text (contents (inner_of old.out)) (contents (inner_of new.out)) old.answers.items new.answers.items)
-  gains_said = if_last _ said_of (rw (← said_now, ← out, ← answers) said)
+  gains_said : Gains (concat (said.2 ∷ [])) (contents (inner_of old.out)) (contents (inner_of new.out)) old.answers.items new.answers.items
+  gains_said = rw (append-nil, ← out, ← answers) said.4
 
   module _ (outcome : J → Text → Outcome) (goes_on : J → Option Text → J → Type 0) (place : StaysAt now new) (wrong : TurnsWrong now.status new.status) where
     turned : TurnsWrong old.status new.status
     turned = wrong ∙ ap (λ s. max (number_of s) 1) status
 
+    says_of : (o : Outcome) → IsFaultOf o fault → IsFaultOf o said.0
+    says_of o is = elim said.1 [
+      | inl same ↦ rw same is
+      | inr memory ↦ rw memory tt
+    ]
+
     pub line_wrong : IsFaultOf (outcome old.job line) fault → goes_on old.job None new.job → DoesJob outcome goes_on contents old (Some line ∷ []) new
     line_wrong is goes = record {
-      texts = said_of ∷ [];
-      does = (new.job, new.status, inr (fault, is, refl, goes, turned), (refl, refl));
+      texts = said.2 ∷ [];
+      does = (new.job, new.status, inr (said.0, says_of (outcome old.job line) is, stands, goes, turned), (refl, refl));
       gains = gains_said;
       file = place.0 ∙ file;
       numbers = place.1 ∙ number;
@@ -115,14 +127,16 @@ module _ {J W E : Type 0} (contents : W → Option Text) (line : Text) (fault : 
 
     -- memory was refused for the line
     pub line_refused : line ≡ [] → fault ≡ Memory → new.job ≡ old.job → DoesJob outcome goes_on contents old (None ∷ []) new
-    line_refused none memory same = record {
-      texts = said_of ∷ [];
-      does = (new.job, new.status, (same, λ i. text_for_wrong old.reports old.file.now (next_number old.number) (none i) (memory i), turned), (refl, refl));
-      gains = gains_said;
-      file = place.0 ∙ file;
-      numbers = place.1 ∙ number;
-      reports = place.2 ∙ reports;
-    }
+    line_refused none memory same =
+        let says : said.0 ≡ Memory = elim said.1 [ inl is ↦ is ∙ memory | inr is ↦ is ] in
+        record {
+          texts = said.2 ∷ [];
+          does = (new.job, new.status, (same, rw (← none, ← says) stands, turned), (refl, refl));
+          gains = gains_said;
+          file = place.0 ∙ file;
+          numbers = place.1 ∙ number;
+          reports = place.2 ∙ reports;
+        }
 
 module _ {J W E : Type 0} (given : Texts J W E → List (Option Text) → Texts J W E → Type 0) where
   pub DoesFiles-push : (files : List (Bor Text)) (statuses : List Status) (file : Bor Text) (status : Status) (old mid new : Texts J W E) → DoesFiles given files statuses old mid → GivesFile given status (record mid { file = file; number = 0 }) new → DoesFiles given (files ++ file ∷ []) (statuses ++ status ∷ []) old new
@@ -163,3 +177,12 @@ module _ {R : Type 0} (text : R → Text) (lines : List R) (i : ℕ) where
 -- what holds anyway holds where a call went well
 pub on_ok : {T E P : Type 0} (r : Result T E) → P → OnOk r P
 on_ok r p = grind arith
+
+-- an output has failed or has not
+pub not_failed : {P : Type 0} (failure : Option Error) → failure ≡ None → is_some failure ≡ true → P
+not_failed None none failed = cc
+not_failed (Some error) none failed = grind arith
+
+pub if_written : {T E P : Type 0} (written : Result T E) (failure : Option Error) → OnOk written P → OnErr written (is_some failure ≡ true) → failure ≡ None → P
+if_written (Ok done) failure ok err none = ok
+if_written (Err error) failure ok err none = not_failed failure none err

@@ -1,8 +1,8 @@
 -- What the command makes of a line of a file.
 use Rattle.std.specs.Prelude.{◌≡◌, Bool, ◌||◌, List, ◌∷◌, ◌++◌, Option, Some, None, Result, Ok, Err, is_none, is_some, if◌then◌else◌}
-use Rattle.std.specs.{BTreeSet.{contains}, List.{filter}}
+use Rattle.std.specs.{BTreeSet.{contains}, List.{filter}, List.Sorted.{IsPermutation, IsSorted, IsStable}, Ordering.{on}}
 use Rattle.iref.specs.{Characters.{iri_chars, uri_chars}, Faults.{FaultValue, fault_of_reference, fault_of_uri}}
-use Rattle.iref.specs.{BytePlaces.{fault_value}, Keys.{text_order}, Key.{are_alike, key}, Rules.{Text}}
+use Rattle.iref.specs.{BytePlaces.{fault_value}, Keys.{text_order}, Key.{are_alike, key, key_cmp}, Lists.{key_of_text}, Rules.{Text}}
 use Rattle.iref.specs.{Reference.{ReferenceValue, read_reference}, ReferenceSuffix.{reference_suffix}, SortKey.{sort_key}}
 use Rattle.iref_batch.specs.{Lines.{tab}, Runs.{ended_lines, with_newline}, Gathering.{Extends}}
 use Rattle.iref_tool.specs.declared.jobs.{LineFault.{LineFault}, Sort.{Sort}, Unique.{Unique}}
@@ -68,6 +68,10 @@ abbrev pub Gathers : Sort → Option Text → Sort → Type 0
 Gathers old None new = gathered new ≡ gathered old
 Gathers old (Some line) new = gathered new ≡ gathered old ++ with_newline line
 
+-- nothing is written for a line that is gathered
+abbrev pub sort_outcome : Sort → Text → Outcome
+sort_outcome sort line = of_reference (λ r. Written []) line
+
 -- the answer, if there is one
 abbrev pub or_unreached : (ReferenceValue → Text) → Option ReferenceValue → Outcome
 or_unreached write None = Unreached
@@ -76,3 +80,9 @@ or_unreached write (Some r) = Written (write r)
 -- the lines gathered that are IRI references
 abbrev pub lines_in : Sort → List Text
 lines_in sort = filter (λ line. is_none (fault_of_reference iri_chars line)) (ended_lines (gathered sort))
+
+-- the lines gathered in order of their keys, those that are equal in the order in which they came
+pub record Sorts (sort : Sort) (lines : List Text) : Type 0 where
+  pub same : IsPermutation (lines_in sort) lines
+  pub order : IsSorted (on key_of_text key_cmp) lines
+  pub stable : IsStable (on key_of_text key_cmp) (lines_in sort) lines

@@ -54,6 +54,12 @@ OnReadError (Ok _) P = Unit {0}
 OnReadError (Err Write) P = Unit {0}
 OnReadError (Err (Read _)) P = P
 
+-- the fact holds where a write has failed
+abbrev pub OnWriteError : Result (Unit {0}) Failure → Type 0 → Type 0
+OnWriteError (Ok _) P = Unit {0}
+OnWriteError (Err Write) P = P
+OnWriteError (Err (Read _)) P = Unit {0}
+
 -- of a file some text was read, and all of its lines were given; where it could not be read to its end, those that end before
 abbrev pub GivesFile : {T : Type 0} → (T → List (Option Text) → T → Type 0) → Status → T → T → Type 0
 GivesFile given Well old new = (text : Text) × GivesLines given (lines_of text) old new

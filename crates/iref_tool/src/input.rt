@@ -1,10 +1,10 @@
 //! The lines of an input, one at a time. Only LF ends a line; a last one without it counts unless it
 //! is empty.
-ghost use Rattle.std.specs.Prelude.{◌≡◌, List, [], ◌∷◌, ◌++◌, Option, Some, None, OnOk};
+ghost use Rattle.std.specs.Prelude.{◌≡◌, List, [], ◌∷◌, ◌++◌, Option, Some, None, OnErr, OnOk};
 ghost use Rattle.iref.specs.Rules.{Text};
 ghost use Rattle.iref_batch.specs.{Gathering.{IsNothing}, Lines.{lines_of}};
 ghost use Rattle.iref_tool.specs.Streams.{GivesAll, GivesBeginning, GivesLine, GivesLines, InInput, OnReadError};
-ghost use Rattle.iref_tool.specs.Streams.{ReadsMore};
+ghost use Rattle.iref_tool.specs.Streams.{OnWriteError, ReadsMore};
 ghost use Rattle.iref_tool.specs.declared.input.Failure.TheVariants as why;
 
 use iref_batch::buffer::empty;
@@ -20,23 +20,30 @@ pub trait TakesLines {
     /// What it has to write is written.
     ghost is_settled: { Self → Type 0 };
 
+    /// A write has failed.
+    ghost has_failed: { Self → Type 0 };
+
     /// Takes a line, without its LF.
     fn take(&mut self, line: &[u8]) -> Result<(), StreamError>
-        ensures { OnOk result (given self.old (Some line.now ∷ []) self.new) };
+        ensures line { OnOk result (given self.old (Some line.now ∷ []) self.new) }
+        ensures failed { OnErr result (has_failed self.new) };
 
     /// Takes note of a line for which memory was refused.
     fn refuse(&mut self) -> Result<(), StreamError>
-        ensures { OnOk result (given self.old (None ∷ []) self.new) };
+        ensures line { OnOk result (given self.old (None ∷ []) self.new) }
+        ensures failed { OnErr result (has_failed self.new) };
 
     /// Writes what is gathered, before more is read. `bytes` were read since the last call.
     fn pause(&mut self, bytes: usize) -> Result<(), StreamError>
         ensures no_line { OnOk result (given self.old [] self.new) }
-        ensures settled { OnOk result (is_settled self.new) };
+        ensures settled { OnOk result (is_settled self.new) }
+        ensures failed { OnErr result (has_failed self.new) };
 
     /// Makes room on a terminal for a message.
     fn make_room(&mut self)
         ensures no_line { given self.old [] self.new }
-        ensures settled { is_settled self.old → is_settled self.new };
+        ensures settled { is_settled self.old → is_settled self.new }
+        ensures failed { has_failed self.old → has_failed self.new };
 
     /// It was given no line where nothing changed.
     ghost given_none: { (s : Self) → given s [] s };
@@ -75,6 +82,7 @@ impl From<io::Error> for Failure {
 fn end_line<T: TakesLines>(begun: &mut Begun, tail: &[u8], to: &mut T) -> Result<(), StreamError>
     ensures begun { IsNothing begun.new }
     ensures line { OnOk result (GivesLine T.given begun.old tail.now to.old to.new) }
+    ensures failed { OnErr result (T.has_failed to.new) }
 {
     if begun.is_empty() {
         return to.take(tail);
@@ -92,7 +100,8 @@ fn end_line<T: TakesLines>(begun: &mut Begun, tail: &[u8], to: &mut T) -> Result
 
 // Gives away each line that ends in the block.
 fn take_block<T: TakesLines>(begun: &mut Begun, block: &[u8], to: &mut T) -> Result<(), StreamError>
-    ensures { OnOk result (ReadsMore T.given block.now begun.old begun.new to.old to.new) }
+    ensures more { OnOk result (ReadsMore T.given block.now begun.old begun.new to.old to.new) }
+    ensures failed { OnErr result (T.has_failed to.new) }
 {
     let mut rest = block;
     while let Some((tail, more)) = cut_at(b'\n', rest) {
@@ -109,6 +118,7 @@ fn end_input<T: TakesLines>(begun: &mut Begun, to: &mut T) -> Result<(), StreamE
         InInput T.given seen begun.old first to.old →
         GivesLines T.given (lines_of seen) first to.new) }
     ensures settled { OnOk result (T.is_settled to.new) }
+    ensures failed { OnErr result (T.has_failed to.new) }
 {
     if begun.is_empty() {
         return to.pause(0);
@@ -130,6 +140,7 @@ pub fn each_line<R: Read, T: TakesLines>(
     ensures cut { OnReadError result (GivesBeginning T.given
         (R.remaining reader.old) (R.remaining reader.new) to.old to.new) }
     ensures cut_settled { OnReadError result (T.is_settled to.old → T.is_settled to.new) }
+    ensures failed { OnWriteError result (T.has_failed to.new) }
 {
     let mut begun = Begun::new(alloc);
     let mut block = [0u8; BLOCK];

@@ -10,7 +10,7 @@ ghost use Rattle.iref.specs.SortPrefix.{sort_prefix};
 ghost use Rattle.iref_batch.specs.{Gathering.{Extends}, Runs.{with_newline}};
 ghost use Rattle.iref_reference.specs.References.{key_of_reference, reference_text, reference_value};
 ghost use Rattle.iref_tool.specs.Jobs.{Outcome, Written, EndsBy, SeesMore, answer_line, fault_in, is_below};
-ghost use Rattle.iref_tool.specs.Jobs.{Gathers, gathered, has_seen, lines_in};
+ghost use Rattle.iref_tool.specs.Jobs.{Gathers, gathered, has_seen, lines_in, sort_outcome};
 ghost use Rattle.iref_tool.specs.Jobs.{of_iri, of_reference, or_unreached, unless_fault};
 ghost use Rattle.iref_tool.specs.Words.{ReadsText};
 ghost use Rattle.iref_tool.specs.declared.jobs.LineFault.TheVariants as line_fault;
@@ -328,7 +328,7 @@ impl Sort {
 }
 
 impl Job for Sort {
-    ghost outcome = { λ _ line. of_reference (λ _. Written []) line };
+    ghost outcome = { sort_outcome };
 
     ghost goes_on = { Gathers };
 

@@ -124,6 +124,8 @@ impl<W: Write, E: Write> TakesLines for Lines<W, E> {
 
     ghost is_settled = { λ lines. (lines.answers.items ≡ []) × (lines.asked.items ≡ []) };
 
+    ghost has_failed = { λ _. Unit {0} };
+
     ghost given_none = { λ s. AnswersLines-nothing W.contents s };
 
     ghost given_more = { λ old mid new lines others.

@@ -2,7 +2,9 @@
 ghost use Rattle.std.specs.Prelude.{◌≡◌};
 ghost use Rattle.iref_tool.specs.Words.{status_of};
 
-use crate::place::{Why, columns_before};
+use crate::place::{Excerpt, Found, Why};
+use crate::shown::Shown;
+use crate::words::EDITS;
 use iref::compact::Labels;
 use iref::{Fault, Memory};
 use iref_batch::columns::column;
@@ -44,23 +46,32 @@ pub enum Reason {
     NoReference,
 }
 
-impl fmt::Display for Reason {
+// What is wrong with the word of an argument, as a sentence.
+#[derive(Clone, Copy)]
+struct Complaint(&'static str, Reason);
+
+impl fmt::Display for Complaint {
     fn fmt<W: fmt::Write>(&self, f: &mut fmt::Formatter<W>) -> fmt::Result {
-        match self {
-            Reason::Text { kind, fault, .. } => write!(f, "is no {kind}: {}", Why(*fault)),
-            Reason::NoEdit => f.write_str("names no edit"),
-            Reason::NoValue => f.write_str("names an edit that needs =VALUE"),
-            Reason::Value => f.write_str("names an edit that takes no value"),
-            Reason::NoAuthority => f.write_str("edits a part of an authority, and there is none"),
-            Reason::NoEntry => f.write_str("has no ="),
-            Reason::Label(labels) => write!(f, "has a wrong label: {labels}"),
-            Reason::Taken => f.write_str("has a label that was given before"),
-            Reason::NoColon => f.write_str("has no : after a label"),
-            Reason::UnknownLabel => f.write_str("has a label that no LABEL=IRI gives"),
-            Reason::NotAnIri => f.write_str("expands to a text that is no IRI"),
-            Reason::NoPrefix => f.write_str("begins with none of the IRIs of the labels"),
-            Reason::NoReference => f.write_str("is what no reference resolves to"),
-        }
+        let Complaint(argument, reason) = *self;
+        let what = match reason {
+            Reason::NoReference => return write!(f, "no reference resolves to {argument}"),
+            Reason::Text { kind, fault, .. } => {
+                let why = Why(fault, Found::new(fault)?);
+                return write!(f, "{argument} is no {kind}: {why}");
+            }
+            Reason::Label(labels) => return write!(f, "{argument} has a wrong label: {labels}"),
+            Reason::NoEdit => "names no edit",
+            Reason::NoValue => "names an edit that needs =VALUE",
+            Reason::Value => "names an edit that takes no value",
+            Reason::NoAuthority => "edits a part of an authority, and there is none",
+            Reason::NoEntry => "has no =",
+            Reason::Taken => "has a label that was given before",
+            Reason::NoColon => "has no : after a label",
+            Reason::UnknownLabel => "has a label that no LABEL=IRI gives",
+            Reason::NotAnIri => "expands to a text that is no IRI",
+            Reason::NoPrefix => "begins with none of the IRIs of the labels",
+        };
+        write!(f, "{argument} {what}")
     }
 }
 
@@ -99,38 +110,32 @@ impl Refusal<'_> {
     }
 }
 
-/// A word with each control character as U+FFFD, so that none acts on a terminal and each takes a
-/// column.
+/// Why there is no answer, on a terminal of so many columns: two lines, and a third with a caret below
+/// the place where there is one: `iref: BASE is no IRI: invalid host: ' '`, the place in characters,
+/// and the word, or what stands around the place. Where memory was refused one line says so.
 #[derive(Clone, Copy)]
-pub struct Shown<'a>(pub &'a str);
-
-impl fmt::Display for Shown<'_> {
-    fn fmt<W: fmt::Write>(&self, f: &mut fmt::Formatter<W>) -> fmt::Result {
-        for c in self.0.chars() {
-            f.write_char(if c.is_control() { '\u{FFFD}' } else { c })?;
-        }
-        Ok(())
-    }
+pub struct Told<'a> {
+    pub refusal: Refusal<'a>,
+    pub columns: usize,
 }
 
-/// Two lines, and a third with a caret below the place where there is one: `iref: BASE is no IRI:
-/// invalid host: ' '`, the place in characters, and the word. Where memory was refused one line says
-/// so.
-impl fmt::Display for Refusal<'_> {
+impl fmt::Display for Told<'_> {
     fn fmt<W: fmt::Write>(&self, f: &mut fmt::Formatter<W>) -> fmt::Result {
-        let Refusal::Word(argument, word, reason) = self else {
+        let Refusal::Word(argument, word, reason) = self.refusal else {
             return f.write_str("iref: out of memory\n");
         };
-        write!(f, "iref: {argument} {reason}")?;
-        let Reason::Text { start, fault, .. } = reason else {
-            return write!(f, "\n    {}\n", Shown(word));
-        };
-        let at = start.saturating_add(fault.at());
-        let column = column(word.as_bytes(), at);
-        write!(f, ", at character {column}\n    {}\n    ", Shown(word))?;
-        for _ in 0..columns_before(word, at) {
-            f.write_char(' ')?;
+        write!(f, "iref: {}", Complaint(argument, reason))?;
+        if let Reason::Text { start, fault, .. } = reason {
+            let at = start.saturating_add(fault.at());
+            let column = column(word.as_bytes(), at);
+            let columns = self.columns;
+            let excerpt = Excerpt { word, at, columns };
+            return write!(f, ", at character {column}\n{excerpt}");
         }
-        f.write_str("^\n")
+        write!(f, "\n    {}\n", Shown(word))?;
+        if let Reason::NoEdit = reason {
+            return write!(f, "The edits:\n{EDITS}\n");
+        }
+        Ok(())
     }
 }

@@ -1,31 +1,35 @@
 //! What the words ask for, done.
-ghost use Rattle.std.specs.Prelude.{◌≡◌, ◌≢◌, None, IfOk, IfSome, OnOk, map};
+ghost use Rattle.std.specs.Prelude.{◌≡◌, ◌≢◌, true, IfNone, IfSome, OnErr, OnOk, map};
 ghost use Rattle.std.specs.{Io.KnownBytes.{Appends}, IoError.{error_kind}};
 ghost use Rattle.iref.specs.{References.{reference_text}, Rules.{Text}};
 ghost use Rattle.iref_batch.specs.{Lines.{lines_of}, Runs.{ended_lines, with_newlines}};
-ghost use Rattle.iref_batch.specs.StdStreams.{failure_of, inner_of};
-ghost use Rattle.iref_tool.specs.JobRuns.{DoesAll, TurnsWrong};
+ghost use Rattle.iref_batch.specs.StdStreams.{failure_of, has_failed, inner_of};
+ghost use Rattle.iref_tool.specs.{Endings.{DoesToEnd, EndsAll, EndsWith, SortsAll}, JobRuns.{TurnsWrong}};
 ghost use Rattle.iref_tool.specs.Words.{status_of};
-ghost use Rattle.iref_tool.specs.Streams.{GivesFile, GivesLines, OnReadError, file_status};
+ghost use Rattle.iref_tool.specs.Streams.{GivesFile, GivesLines, OnReadError, OnWriteError, file_status};
 
+use crate::arguments::{is_not_utf8, without_mark};
 use crate::examples::Tables;
 use crate::input::{Failure, TakesLines, each_line};
-use crate::jobs::{Below, Canonical, Check, Job, Keep, Key, Relativize, Resolve, Sort, Unique};
+use crate::jobs::{Check, Job, Sort};
 use crate::lines::Lines;
 use crate::progress::{LONG, Progress};
 use crate::question::answer;
-use crate::read::{iri, reference};
-use crate::refusal::{Refusal, Shown};
+use crate::refusal::{Refusal, Told};
+use crate::shown::Shown;
 use crate::texts::Texts;
-use crate::words::{word_of, words_of};
+use crate::words::files_of;
+use crate::work::{Work, work_of};
 use clap::ArgMatches;
 use iref::iri::IriRef;
 use iref_batch::buffer::GATHERED;
 use iref_batch::status::Status;
 use iref_batch::{FromStd, StreamError};
-use std::fs;
+use std::env;
+use std::fs::{self, Metadata};
 use std::hash::RandomState;
 use std::io::{self, BufWriter, ErrorKind, IsTerminal, Write};
+use std::os::unix::fs::MetadataExt;
 use std::rt::{Stderr, Stdout};
 
 /// The status where an output has failed. Nothing is said where nobody reads it any more.
@@ -42,11 +46,7 @@ pub fn output_failed(rt: &HostRuntime, error: &io::Error, status: Status) -> Sta
 
 // The status of a run, whose output may have failed.
 fn ended<W: Write>(rt: &HostRuntime, out: &FromStd<W>, status: Status) -> Status
-    ensures works { failure_of out.now ≡ None → result ≡ status }
-    ensures unread { IfSome (failure_of out.now)
-        (λ error. error_kind error ≡ ErrorKind.BrokenPipe → result ≡ status) }
-    ensures failed { IfSome (failure_of out.now)
-        (λ error. error_kind error ≢ ErrorKind.BrokenPipe → TurnsWrong status result) }
+    ensures { EndsWith (failure_of out.now) status result }
 {
     match out.failure() {
         None => status,
@@ -54,11 +54,23 @@ fn ended<W: Write>(rt: &HostRuntime, out: &FromStd<W>, status: Status) -> Status
     }
 }
 
+// How many columns a terminal has where it does not say so.
+const COLUMNS: usize = 80;
+
+// How many columns the terminal has.
+fn columns(rt: &HostRuntime) -> usize {
+    match env::var(rt, "COLUMNS") {
+        Ok(columns) => columns.parse().unwrap_or(COLUMNS),
+        Err(_) => COLUMNS,
+    }
+}
+
 // Prints why there is no answer.
-fn refused(rt: &HostRuntime, refusal: &Refusal<'_>) -> Status
-    ensures { result ≡ status_of refusal.now }
+fn refused(rt: &HostRuntime, refusal: Refusal<'_>) -> Status
+    ensures { result ≡ status_of refusal }
 {
-    let _ = rt.eprint(refusal);
+    let columns = columns(rt);
+    let _ = rt.eprint(&Told { refusal, columns });
     refusal.status()
 }
 
@@ -69,13 +81,16 @@ fn print(rt: &HostRuntime, answer: &str) -> Status {
     ended(rt, &out, Status::Well)
 }
 
-// How many bytes a file has, if this is known before it is read; `-` is standard input.
-fn size_of(rt: &HostRuntime, file: &str) -> Option<u64> {
+// What is known of a file before it is read, unless it is a folder, a pipe or a device; `-` is
+// standard input.
+fn metadata_of(rt: &HostRuntime, file: &str) -> Option<Metadata> {
     let name = if file == "-" { "/dev/stdin" } else { file };
-    match fs::metadata(rt, name) {
-        Ok(metadata) if metadata.is_file() => Some(metadata.len()),
-        _ => None,
-    }
+    fs::metadata(rt, name).ok().filter(Metadata::is_file)
+}
+
+// How many bytes a file has, if this is known before it is read.
+fn size_of(rt: &HostRuntime, file: &str) -> Option<u64> {
+    Some(metadata_of(rt, file)?.len())
 }
 
 // How many bytes the files have, if this is known of each.
@@ -96,6 +111,26 @@ fn progress_of(rt: &HostRuntime, files: &[&str]) -> Progress<Stderr> {
     Progress::new(rt.stderr(), size)
 }
 
+// Whether standard output goes to the file.
+fn is_output(rt: &HostRuntime, file: &str) -> bool {
+    match (metadata_of(rt, file), metadata_of(rt, "/dev/stdout")) {
+        (Some(file), Some(output)) => file.dev() == output.dev() && file.ino() == output.ino(),
+        _ => false,
+    }
+}
+
+// Fails where a file is not read: its name is not UTF-8, so that it cannot be opened, or it would
+// grow while it is read.
+fn admit(rt: &HostRuntime, file: &str) -> io::Result<()> {
+    if is_not_utf8(file) {
+        return Err(io::Error::new(ErrorKind::InvalidInput, "its name is not UTF-8"));
+    }
+    if is_output(rt, file) {
+        return Err(io::Error::new(ErrorKind::InvalidInput, "standard output goes to this file"));
+    }
+    Ok(())
+}
+
 // Gives each line of a file away; `-` is standard input.
 fn each_line_of<T: TakesLines>(rt: &HostRuntime, file: &str, to: &mut T) -> Result<(), Failure>
     ensures lines { OnOk result
@@ -103,7 +138,9 @@ fn each_line_of<T: TakesLines>(rt: &HostRuntime, file: &str, to: &mut T) -> Resu
     ensures cut { OnReadError result
         ((text : Text) × GivesLines T.given (ended_lines text) to.old to.new) }
     ensures settled { OnOk result (T.is_settled to.new) }
+    ensures failed { OnWriteError result (T.has_failed to.new) }
 {
+    admit(rt, file)?;
     if file == "-" {
         return each_line(rt.alloc(), &mut rt.stdin(), to);
     }
@@ -118,7 +155,7 @@ fn status_of_read(rt: &HostRuntime, file: &str, read: Result<(), Failure>) -> Op
         Ok(()) => Some(Status::Well),
         Err(Failure::Write) => None,
         Err(Failure::Read(error)) => {
-            let _ = eprintln!(rt; "iref: {}: {error}", Shown(file));
+            let _ = eprintln!(rt; "iref: {}: {error}", Shown(without_mark(file)));
             Some(Status::Misused)
         }
     }
@@ -128,31 +165,30 @@ fn status_of_read(rt: &HostRuntime, file: &str, read: Result<(), Failure>) -> Op
 fn read_file<T: TakesLines>(rt: &HostRuntime, file: &str, to: &mut T) -> Option<Status>
     ensures lines { IfSome result (λ status. GivesFile T.given status to.old to.new) }
     ensures settled { IfSome result (λ status. status ≡ Status.Well → T.is_settled to.new) }
+    ensures failed { IfNone result (T.has_failed to.new) }
 {
     let read = each_line_of(rt, file, to);
     to.make_room();
     status_of_read(rt, file, read)
 }
 
-// Does a job with each line of the files: the worst status of these. Where a write has failed, an
-// `Err` has that of the files before.
+// Does a job with each line of the files, until a write fails: the worst status that was met.
 fn each_text<'a, J: Job, W: Write, E: Write>(
     rt: &HostRuntime,
     files: &[&'a str],
     texts: &mut Texts<'a, J, W, E>,
-) -> Result<Status, Status>
-    ensures { IfOk result (λ status.
-        DoesAll J.outcome J.goes_on W.contents files.now status texts.old texts.new) }
+) -> Status
+    ensures { DoesToEnd J.outcome J.goes_on W.contents files.now texts.old texts.new result }
 {
     let mut status = Status::Well;
     for file in files {
         texts.begin(*file);
         match read_file(rt, *file, texts) {
             Some(of_file) => status = status.worse(of_file),
-            None => return Err(status),
+            None => return texts.status.worse(status),
         }
     }
-    Ok(status)
+    status.worse(texts.status)
 }
 
 // A job, before the files are read.
@@ -166,32 +202,34 @@ fn texts_of<'a, J: Job>(
 }
 
 // Does the job with each line of the files, and ends the output.
-fn finish<'a, J: Job + Drop>(
+fn finish<'a, J: Job, W: Write, E: Write>(
     rt: &HostRuntime,
-    texts: Texts<'a, J, Stdout, Stderr>,
     files: &[&'a str],
-) -> Status {
-    let mut texts = texts;
-    let (Ok(status) | Err(status)) = each_text(rt, files, &mut texts);
-    ended(rt, &texts.out, status.worse(texts.status))
+    texts: &mut Texts<'a, J, W, E>,
+) -> Status
+    ensures { EndsAll J.outcome J.goes_on W.contents files.now texts.old texts.new result }
+{
+    let status = each_text(rt, files, texts);
+    ended(rt, &texts.out, status)
 }
 
 // Does a job with each line of the files.
 fn do_each<J: Job + Drop>(rt: &HostRuntime, job: J, files: &[&str]) -> Status {
-    finish(rt, texts_of(rt, job, files), files)
+    finish(rt, files, &mut texts_of(rt, job, files))
 }
 
 // Finds the wrong lines of the files. Their notes are the answer.
 fn check(rt: &HostRuntime, job: Check, files: &[&str]) -> Status {
     let mut texts = texts_of(rt, job, files);
     texts.reports = true;
-    finish(rt, texts, files)
+    finish(rt, files, &mut texts)
 }
 
 // Writes the lines.
 fn put_lines<W: Write>(lines: &[IriRef<'_>], out: &mut FromStd<W>) -> Result<(), StreamError>
-    ensures { OnOk result (Appends (W.contents (inner_of out.old)) (W.contents (inner_of out.new))
+    ensures ok { OnOk result (Appends (W.contents (inner_of out.old)) (W.contents (inner_of out.new))
         (with_newlines (map reference_text lines.now))) }
+    ensures failed { OnErr result (has_failed out.new ≡ true) }
 {
     for line in lines {
         out.put(line.as_bytes())?;
@@ -201,22 +239,33 @@ fn put_lines<W: Write>(lines: &[IriRef<'_>], out: &mut FromStd<W>) -> Result<(),
 }
 
 // Sorts the lines of the files.
-fn sort(rt: &HostRuntime, files: &[&str]) -> Status {
-    let mut texts = texts_of(rt, Sort::new(rt.alloc()), files);
-    let (Ok(status) | Err(status)) = each_text(rt, files, &mut texts);
-    let status = status.worse(texts.status);
-    let writer = BufWriter::with_capacity(rt.alloc(), GATHERED, rt.stdout());
-    let (Ok(sorted), Ok(writer)) = (texts.job.sorted(), writer) else {
-        refused(rt, &Refusal::Memory);
-        return status.worse(Status::Wrong);
+fn sort_to<'a, W: Write, E: Write, V: Write>(
+    rt: &HostRuntime,
+    files: &[&'a str],
+    texts: &mut Texts<'a, Sort, W, E>,
+    out: &mut FromStd<V>,
+) -> Status
+    ensures { SortsAll W.contents V.contents files.now texts.old texts.new out.old out.new result }
+{
+    let status = each_text(rt, files, texts);
+    let Ok(sorted) = texts.job.sorted() else {
+        return status.worse(refused(rt, Refusal::Memory));
     };
-    let mut out = FromStd::new(writer);
-    let _ = put_lines(sorted.as_slice(), &mut out);
-    ended(rt, &out, status)
+    let _ = put_lines(sorted.as_slice(), out);
+    ended(rt, out, status)
 }
 
-// Answers the lines of the files.
-fn answer_lines(rt: &HostRuntime, files: &[&str]) -> Status {
+// Sorts the lines of the files.
+fn sort(rt: &HostRuntime, job: Sort, files: &[&str]) -> Status {
+    let Ok(writer) = BufWriter::with_capacity(rt.alloc(), GATHERED, rt.stdout()) else {
+        return refused(rt, Refusal::Memory);
+    };
+    let mut texts = texts_of(rt, job, files);
+    sort_to(rt, files, &mut texts, &mut FromStd::new(writer))
+}
+
+/// Answers the lines of the files.
+pub fn answer_lines(rt: &HostRuntime, files: &[&str]) -> Status {
     let seed = match RandomState::new(rt) {
         Ok(seed) => seed,
         Err(error) => {
@@ -236,12 +285,18 @@ fn answer_lines(rt: &HostRuntime, files: &[&str]) -> Status {
     ended(rt, &lines.out, status)
 }
 
-// The files; standard input where there is none.
-fn files_of<'m, 'w: 'm>(matches: &'m ArgMatches<'w>) -> &'m [&'m str] {
-    match (words_of(matches, "FILE"), words_of(matches, "WORD")) {
-        ([], []) => &["-"],
-        ([], files) => files,
-        (files, _) => files,
+// Does a job with each line of the files.
+fn do_work(rt: &HostRuntime, work: Work<'_>, files: &[&str]) -> Status {
+    match work {
+        Work::Check(job) => check(rt, job, files),
+        Work::Canonical(job) => do_each(rt, job, files),
+        Work::Key(job) => do_each(rt, job, files),
+        Work::Resolve(job) => do_each(rt, job, files),
+        Work::Relativize(job) => do_each(rt, job, files),
+        Work::Sort(job) => sort(rt, job, files),
+        Work::Unique(job) => do_each(rt, job, files),
+        Work::Below(job) => do_each(rt, job, files),
+        Work::Lines => answer_lines(rt, files),
     }
 }
 
@@ -252,38 +307,19 @@ fn run_words<'m, 'w: 'm>(
     name: &str,
     matches: &'m ArgMatches<'w>,
 ) -> Result<Option<Status>, Refusal<'m>> {
-    let alloc = rt.alloc();
-    if let Some(answer) = answer(alloc, name, matches)? {
+    if let Some(answer) = answer(rt.alloc(), name, matches)? {
         return Ok(Some(print(rt, answer.as_str())));
     }
-    let keep = Keep(matches.get_flag("keep"));
-    let files = files_of(matches);
-    let status = match (name, matches.get_str("base")) {
-        ("check", _) => {
-            let uri = matches.get_flag("uri");
-            let absolute = matches.get_flag("absolute");
-            check(rt, Check { uri, absolute }, files)
-        }
-        ("canonical", _) => do_each(rt, Canonical::new(alloc, keep), files),
-        ("key", _) => do_each(rt, Key(keep), files),
-        ("resolve", Some(base)) => do_each(rt, Resolve(iri("BASE", base)?, keep), files),
-        ("relativize", Some(base)) => do_each(rt, Relativize(iri("BASE", base)?, keep), files),
-        ("sort", _) => sort(rt, files),
-        ("unique", _) => do_each(rt, Unique::new(alloc), files),
-        ("below", _) => {
-            let prefix = reference("PREFIX", word_of(matches, "PREFIX"))?;
-            do_each(rt, Below::new(alloc, prefix)?, files)
-        }
-        ("lines", _) => answer_lines(rt, files),
-        _ => return Ok(None),
-    };
-    Ok(Some(status))
+    match work_of(rt.alloc(), name, matches)? {
+        Some(work) => Ok(Some(do_work(rt, work, files_of(matches)))),
+        None => Ok(None),
+    }
 }
 
 /// Does what a command asks for, unless it wants other words.
 pub fn run_command(rt: &HostRuntime, name: &str, matches: &ArgMatches<'_>) -> Option<Status> {
     match run_words(rt, name, matches) {
         Ok(status) => status,
-        Err(refusal) => Some(refused(rt, &refusal)),
+        Err(refusal) => Some(refused(rt, refusal)),
     }
 }

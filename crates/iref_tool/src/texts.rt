@@ -1,14 +1,15 @@
 //! A job done with each line of inputs: what is answered, and what is said of wrong lines.
-ghost use Rattle.std.specs.Prelude.{◌≡◌, [], ◌∷◌, ◌++◌, false, Some, IfSome, OnErr, OnOk};
-ghost use Rattle.iref_batch.specs.{Gathering.{Gains, Writes}, Runs.{with_newline}, StdStreams.{inner_of}};
-ghost use Rattle.iref_tool.specs.JobRuns.{DoesJob, StaysAt, TurnsWrong};
-ghost use Rattle.iref_tool.specs.Notes.{fault_note, note_text, text_for_wrong};
+ghost use Rattle.std.specs.Prelude.{◌≡◌, [], ◌∷◌, ◌++◌, false, true, Some, IfSome, OnErr, OnOk};
+ghost use Rattle.iref_batch.specs.{Gathering.{Writes}, Runs.{with_newline}, StdStreams.{has_failed, inner_of}};
+ghost use Rattle.iref_tool.specs.JobRuns.{DoesJob, SaysWrong, StaysAt, TurnsWrong};
+ghost use Rattle.iref_tool.specs.Notes.{IsFoundBy, MaySay, fault_note, found_of, note_text};
 ghost use Rattle.iref_tool.specs.JobRunLaws.{DoesJob-both, DoesJob-nothing};
 
 use crate::input::TakesLines;
 use crate::jobs::{Job, LineFault};
-use crate::place::Why;
+use crate::place::{Found, Why};
 use crate::progress::Progress;
+use crate::shown::Shown;
 use iref::Memory;
 use iref_batch::buffer::{GATHERED, empty, push_line};
 use iref_batch::columns::column;
@@ -43,17 +44,32 @@ pub struct Texts<'a, J, W, E> {
     made: Vec<u8>,
 }
 
+// What is said of a fault, and what stands there. Where that cannot be written, it is said that
+// memory was refused.
+fn said_of(fault: LineFault) -> (LineFault, Found)
+    ensures fault { MaySay fault result.0 }
+    ensures found { IsFoundBy result.0 (found_of result.1) }
+{
+    let LineFault::Invalid(invalid) = fault else {
+        return (fault, Found::nothing());
+    };
+    match Found::new(invalid) {
+        Ok(found) => (fault, found),
+        Err(_) => (LineFault::Memory, Found::nothing()),
+    }
+}
+
 // What is wrong with a line, behind its number.
 #[derive(Clone, Copy)]
-struct LineWhy<'a>(&'a [u8], LineFault);
+struct LineWhy<'a>(&'a [u8], LineFault, Found);
 
 impl fmt::Display for LineWhy<'_> {
-    ghost output = { λ why. fault_note why.0.now why.1 };
+    ghost output = { λ why. fault_note why.0.now why.1 (found_of why.2) };
 
     fn fmt<W: fmt::Write>(&self, f: &mut fmt::Formatter<W>) -> fmt::Result {
         match self.1 {
             LineFault::Invalid(fault) => {
-                write!(f, "{}: {}", column(self.0, fault.at()), Why(fault))
+                write!(f, "{}: {}", column(self.0, fault.at()), Why(fault, self.2))
             }
             LineFault::NoReference => f.write_str(" no reference resolves to this text"),
             LineFault::Memory => f.write_str(" out of memory"),
@@ -68,14 +84,16 @@ struct Note<'a> {
     number: u64,
     line: &'a [u8],
     fault: LineFault,
+    found: Found,
 }
 
 impl fmt::Display for Note<'_> {
-    ghost output = { λ note. note_text note.file.now note.number note.line.now note.fault };
+    ghost output = { λ note. note_text note.file.now note.number note.line.now note.fault
+        (found_of note.found) };
 
     fn fmt<W: fmt::Write>(&self, f: &mut fmt::Formatter<W>) -> fmt::Result {
-        let why = LineWhy(self.line, self.fault);
-        write!(f, "{}:{}:{why}", self.file, self.number)
+        let why = LineWhy(self.line, self.fault, self.found);
+        write!(f, "{}:{}:{why}", Shown(self.file), self.number)
     }
 }
 
@@ -83,7 +101,7 @@ impl fmt::Display for Note<'_> {
 // adds nothing.
 fn push_note(made: &mut Vec<u8>, notes: &mut Vec<u8>, note: &Note<'_>) -> Result<(), Memory>
     ensures ok { OnOk result (IfSome (note_text note.now.file.now note.now.number note.now.line.now
-        note.now.fault) (λ text. notes.new.items ≡ notes.old.items ++ with_newline text)) }
+        note.now.fault (found_of note.now.found)) (λ text. notes.new.items ≡ notes.old.items ++ with_newline text)) }
     ensures err { OnErr result (notes.new.items ≡ notes.old.items) }
 {
     made.clear();
@@ -130,17 +148,20 @@ impl<'a, J: Job, W: Write, E: Write> Texts<'a, J, W, E> {
         ensures job { self.new.job ≡ self.old.job }
         ensures place { StaysAt self.old self.new }
         ensures wrong { TurnsWrong self.old.status self.new.status }
-        ensures said { OnOk result (IfSome (text_for_wrong self.old.reports self.old.file.now
-            self.old.number line.now fault) (λ text. Gains text
+        ensures said { OnOk result (SaysWrong self.old.reports self.old.file.now
+            self.old.number line.now fault
             (W.contents (inner_of self.old.out)) (W.contents (inner_of self.new.out))
-            self.old.answers.items self.new.answers.items)) }
+            self.old.answers.items self.new.answers.items) }
+        ensures failed { OnErr result (has_failed self.new.out ≡ true) }
     {
         self.status = self.status.worse(Status::Wrong);
+        let (fault, found) = said_of(fault);
         let note = Note {
             file: self.file,
             number: self.number,
             line,
             fault,
+            found,
         };
         if self.reports {
             if push_note(&mut self.made, &mut self.answers, &note).is_err() {
@@ -165,6 +186,7 @@ impl<'a, J: Job, W: Write, E: Write> Texts<'a, J, W, E> {
         ensures noted { OnOk result (self.new.notes.items ≡ []) }
         ensures written { OnOk result (Writes self.old.answers.items
             (W.contents (inner_of self.old.out)) (W.contents (inner_of self.new.out))) }
+        ensures failed { OnErr result (has_failed self.new.out ≡ true) }
     {
         if self.answers.is_empty() && self.notes.is_empty() {
             return Ok(());
@@ -179,8 +201,9 @@ impl<'a, J: Job, W: Write, E: Write> Texts<'a, J, W, E> {
 
     // Does the job with a line. Where the line is wrong, this is noted.
     fn answer(&mut self, line: &[u8]) -> Result<(), StreamError>
-        ensures { OnOk result (DoesJob J.outcome J.goes_on W.contents
+        ensures done { OnOk result (DoesJob J.outcome J.goes_on W.contents
             self.old (Some line.now ∷ []) self.new) }
+        ensures failed { OnErr result (has_failed self.new.out ≡ true) }
     {
         self.number = self.number.saturating_add(1);
         let before = self.answers.len();
@@ -199,6 +222,8 @@ impl<J: Job, W: Write, E: Write> TakesLines for Texts<'_, J, W, E> {
         DoesJob J.outcome J.goes_on W.contents old lines new };
 
     ghost is_settled = { λ texts. (texts.answers.items ≡ []) × (texts.notes.items ≡ []) };
+
+    ghost has_failed = { λ texts. has_failed texts.out ≡ true };
 
     ghost given_none = { λ s. DoesJob-nothing J.outcome J.goes_on W.contents s };
 

@@ -10,7 +10,7 @@ loop-reads-init g c = record {
 
 pub loop-reads-preserved : goal.loop-reads-preserved
 loop-reads-preserved g c = record {
-  read = input_more g.T.TakesLines.given g.met.T.TakesLines.given_more c.read.new.buf c.in_ok-n.n _ _ _ _ _ _ _ _ _ c.in_ok-n.ensures.bytes.0 c.in_ok-take_block.ensures c.in_ok-pause.ensures.no_line c.loop-reads.invariant.read;
+  read = input_more g.T.TakesLines.given g.met.T.TakesLines.given_more c.read.new.buf c.in_ok-n.n _ _ _ _ _ _ _ _ _ c.in_ok-n.ensures.bytes.0 c.in_ok-take_block.ensures.more c.in_ok-pause.ensures.no_line c.loop-reads.invariant.read;
   settled = λ _. c.in_ok-pause.ensures.settled;
 }
 

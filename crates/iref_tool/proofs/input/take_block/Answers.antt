@@ -21,8 +21,8 @@ loop-tail-preserved g c =
 pub loop-tail-smaller : goal.loop-tail-smaller
 loop-tail-smaller g c = line_is_less c.loop-tail.rest.now c.in-Some.tail.now c.in-Some.more.now c.in-Some.ensures.1
 
-pub returns : goal.returns
-returns g c =
+pub returns-clause-more : goal.returns-clause-more
+returns-clause-more g c =
     let given = g.T.TakesLines.given in
     let w = c.loop-tail.invariant in
     let rest = c.loop-tail.rest.now in

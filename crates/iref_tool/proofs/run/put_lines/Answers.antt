@@ -12,7 +12,7 @@ loop-line-preserved g c =
     one_more_line reference_text c.args.lines.now c.loop-line.line-index c.line-item.result c.as_bytes.result.now (search rules) (c.as_bytes.ensures ∙ ap (λ r. reference_text r) c.line-item.is)
     _ _ _ _ c.loop-line.invariant c.in_ok-put.ensures.ok c.in_ok-put-2.ensures.ok
 
-pub returns : goal.returns
-returns g c =
+pub returns-clause-ok : goal.returns-clause-ok
+returns-clause-ok g c =
     on_ok c.flush.result
     (lines_written reference_text c.args.lines.now c.loop-line.line-index (search rules) _ _ _ c.loop-line.invariant c.flush.ensures.same)

@@ -2,13 +2,13 @@ use Rattle.std.proofs.{Common.{◌≡◌, arith, refl}, lemmas.Grind.{common_ste
 use Rattle.iref_tool.proofs.JobRunLemmas.{line_answered, line_wrong}
 use Rattle.iref_tool.proofs.texts.Texts.answer.Goals as goal
 
-pub returns-in-Ok : goal.returns-in-Ok
-returns-in-Ok g c =
+pub returns-in-Ok-clause-done : goal.returns-in-Ok-clause-done
+returns-in-Ok-clause-done g c =
     let done = c.in-Ok.ensures.outcome in
     line_answered {new = record c.args.self.now { job = c.answer.new.self; answers = c.answer.new.out; number = c.saturating_add-self.result }} c.args.line.now done.0 done.1 c.in-Ok.ensures.next refl refl c.saturating_add-self.ensures refl refl done.2
 
-pub returns-in-Err : goal.returns-in-Err
-returns-in-Err g c =
+pub returns-in-Err-clause-done : goal.returns-in-Err-clause-done
+returns-in-Err-clause-done g c =
     let old = c.args.self.now in
     let end = c.in-Err.ensures.outcome in
     let back : c.truncate.new.self.items ≡ old.answers.items = grind (arith, common_steps, end.1.1) in

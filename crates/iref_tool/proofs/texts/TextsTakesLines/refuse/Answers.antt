@@ -3,8 +3,8 @@ use Rattle.iref_tool.specs.declared.jobs.LineFault.TheVariants.{Memory}
 use Rattle.iref_tool.proofs.JobRunLemmas.{line_refused}
 use Rattle.iref_tool.proofs.texts.TextsTakesLines.refuse.Goals as goal
 
-pub returns : goal.returns
-returns g c =
+pub returns-clause-line : goal.returns-clause-line
+returns-clause-line g c =
     let old = c.args.self.now in
     let now = record old { number = c.saturating_add-self.result } in
     on_ok_weaker c.note.result

@@ -1,0 +1,64 @@
+//! The jobs that commands name.
+ghost use Rattle.std.specs.Prelude.{◌≡◌, codes};
+ghost use Rattle.clap.specs.Words.{found_of};
+ghost use Rattle.iref_tool.specs.{Words.{is_given}, Works.{FindsWork}};
+
+use crate::jobs::{Below, Canonical, Check, Keep, Key, Relativize, Resolve, Sort, Unique};
+use crate::read::{iri, reference};
+use crate::refusal::Refusal;
+use crate::words::{is_given, word_of};
+use clap::ArgMatches;
+use std::alloc::Global;
+
+/// A job that is done with each line of files.
+#[derive(Drop)]
+pub enum Work<'a> {
+    Check(Check),
+    Canonical(Canonical),
+    Key(Key),
+    Resolve(Resolve<'a>),
+    Relativize(Relativize<'a>),
+    Sort(Sort),
+    Unique(Unique),
+    Below(Below<'a>),
+    /// Answers lines.
+    Lines,
+}
+
+// The job of `check`.
+fn check(matches: &ArgMatches<'_>) -> Check
+    ensures uri { result.uri ≡ is_given (found_of matches.now) (codes "uri") }
+    ensures absolute { result.absolute ≡ is_given (found_of matches.now) (codes "absolute") }
+{
+    let uri = is_given(matches, "uri");
+    let absolute = is_given(matches, "absolute");
+    Check { uri, absolute }
+}
+
+/// The job that a command names, before the first line; else a word is wrong. None of a command that
+/// names none, as `resolve` without a base.
+pub fn work_of<'m, 'w: 'm>(
+    alloc: Global,
+    name: &str,
+    matches: &'m ArgMatches<'w>,
+) -> Result<Option<Work<'m>>, Refusal<'m>>
+    ensures { FindsWork name.now (found_of matches.now) result }
+{
+    let keep = Keep(is_given(matches, "keep"));
+    let work = match (name, matches.get_str("base")) {
+        ("check", _) => Work::Check(check(matches)),
+        ("canonical", _) => Work::Canonical(Canonical::new(alloc, keep)),
+        ("key", _) => Work::Key(Key(keep)),
+        ("resolve", Some(base)) => Work::Resolve(Resolve(iri("BASE", base)?, keep)),
+        ("relativize", Some(base)) => Work::Relativize(Relativize(iri("BASE", base)?, keep)),
+        ("sort", _) => Work::Sort(Sort::new(alloc)),
+        ("unique", _) => Work::Unique(Unique::new(alloc)),
+        ("below", _) => {
+            let prefix = reference("PREFIX", word_of(matches, "PREFIX"))?;
+            Work::Below(Below::new(alloc, prefix)?)
+        }
+        ("lines", _) => Work::Lines,
+        _ => return Ok(None),
+    };
+    Ok(Some(work))
+}
