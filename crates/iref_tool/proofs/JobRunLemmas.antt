@@ -1,8 +1,8 @@
 -- What a job has written for a line, and for files.
-use Rattle.std.proofs.Common.{◌≡◌, ◌+◌, ◌<◌, ◌≤◌, ℕ, Bool, true, false, List, [], ◌∷◌, ◌++◌, Option, Some, None, IfSome, OnOk, Result, ap, arith, fold, length, map, max, option_map, refl, slice_index_or, subst, sym, take, ◌∙◌, inl, inr, append-nil, Ok, Err, OnErr, is_some}
+use Rattle.std.proofs.Common.{◌≡◌, ◌+◌, ◌<◌, ◌≤◌, ℕ, Bool, true, false, List, [], ◌∷◌, ◌++◌, Option, Some, None, IfSome, OnOk, Result, ap, arith, fold, length, map, max, refl, slice_index_or, subst, sym, take, ◌∙◌, inl, inr, append-nil, Ok, Err, OnErr, is_some, is_err, codes}
 use Rattle.std.proofs.{lemmas.Grind.{common_steps}, lemmas.List.{map-append}, lemmas.List.Sums.{fold-append}}
 use Rattle.std.proofs.{KnownBytes.{Appends-kept, Appends-trans}, lemmas.Grind.{flat_map-append}}
-use Rattle.std.specs.{Borrow.{Bor}, Fmt.{with_newline as with_end}, Io.KnownBytes.{Appends, Keeps}, List.{concat}}
+use Rattle.std.specs.{Borrow.{Bor}, Fmt.{decimal, ◌++?◌, with_newline as with_end}, Io.KnownBytes.{Appends, Keeps}, List.{concat}}
 use Rattle.iref.specs.{BytePlaces.{fault_value}, Rules.{Text}}
 use Rattle.iref_fault.specs.declared.component.Cause.{Cause}
 use Rattle.iref_fault.specs.declared.component.Cause.TheVariants as cause
@@ -11,19 +11,29 @@ use Rattle.iref_batch.specs.declared.status.Status.{Status}
 use Rattle.std.specs.declared.io.Error.{Error}
 use Rattle.iref_batch.proofs.Writing.{gains_gathered, gains_written, writes_from_appends, writes_more}
 use Rattle.iref_tool.specs.JobRuns.{DoesFiles, DoesJob, SaysWrong, StaysAt, TurnsWrong, next_number}
-use Rattle.iref_tool.specs.{Jobs.{IsFaultOf, Outcome, Written}, Notes.{IsFoundBy, MaySay, StandsForWrong, note_text}, Streams.{GivesFile}}
+use Rattle.iref_tool.specs.{Jobs.{IsFaultOf, Outcome, Written}, Notes.{IsFoundBy, MaySay, StandsForWrong, cause_text, fault_note, note_text}, Shown.{shown}, Streams.{GivesFile}}
 use Rattle.iref_tool.specs.declared.{jobs.LineFault.{LineFault}, jobs.LineFault.TheVariants.{Invalid, NoReference, Memory}, texts.Texts.{Texts}}
 
 -- the text of a note is known
-note_is_known : (file : Text) (number : ℕ) (line : Text) (fault : LineFault) (found : Text) → (text : Text) × (note_text file number line fault found ≡ Some text)
-note_is_known file number line (Invalid fault) found = why_is_known (fault_value fault).cause refl
-  where
-    why_is_known : (c : Cause) → (fault_value fault).cause ≡ c → (text : Text) × (note_text file number line (Invalid fault) found ≡ Some text)
-    why_is_known cause.NoScheme is = (_, rw is refl)
-    why_is_known cause.NotUtf8 is = (_, rw is refl)
-    why_is_known (cause.Invalid component) is = (_, rw is refl)
-note_is_known file number line NoReference found = (_, refl)
-note_is_known file number line Memory found = (_, refl)
+abbrev IsKnown : Option Text → Type 0
+IsKnown text = (known : Text) × (text ≡ Some known)
+
+known_then : (front : Text) {text : Option Text} → IsKnown text → IsKnown (Some front ++? text)
+known_then front known = (front ++ known.0, rw known.1 refl)
+
+why_is_known : (c : Cause) (found : Text) → IsKnown (cause_text c found)
+why_is_known cause.NoScheme found = (_, refl)
+why_is_known cause.NotUtf8 found = (_, refl)
+why_is_known (cause.Invalid component) found = (_, refl)
+
+fault_is_known : (line : Text) (fault : LineFault) (found : Text) → IsKnown (fault_note line fault found)
+fault_is_known line (Invalid fault) found = known_then _ (known_then (codes ": ") (why_is_known (fault_value fault).cause found))
+fault_is_known line NoReference found = (_, refl)
+fault_is_known line Memory found = (_, refl)
+
+note_is_known : (file : Text) (number : ℕ) (line : Text) (fault : LineFault) (found : Text) → IsKnown (note_text file number line fault found)
+note_is_known file number line fault found =
+    known_then (shown file) (known_then (codes ":") (known_then (decimal number) (known_then (codes ":") (fault_is_known line fault found))))
 
 -- what stands among the answers for a wrong line was gathered or written
 module _ (reports : Bool) (file : Text) (number : ℕ) (line : Text) (fault said : LineFault) (found : Text) (may : MaySay fault said) (by : IsFoundBy said found) (before after : Option Text) (gathered gathered_then : Text) where
@@ -41,7 +51,7 @@ module _ (reports : Bool) (file : Text) (number : ℕ) (line : Text) (fault said
   pub not_said_written : reports ≡ false → gathered_then ≡ [] → Writes gathered before after → IsSaid
   not_said_written elsewhere none written = says false elsewhere [] refl (gains_written [] before after gathered gathered_then none (rw append-nil written))
 
-  note : (text : Text) × (note_text file number line said found ≡ Some text)
+  note : IsKnown (note_text file number line said found)
   note = note_is_known file number line said found
 
   says_note : reports ≡ true → Gains (with_newline note.0) before after gathered gathered_then → IsSaid
@@ -186,3 +196,8 @@ not_failed (Some error) none failed = grind arith
 pub if_written : {T E P : Type 0} (written : Result T E) (failure : Option Error) → OnOk written P → OnErr written (is_some failure ≡ true) → failure ≡ None → P
 if_written (Ok done) failure ok err none = ok
 if_written (Err error) failure ok err none = not_failed failure none err
+
+-- what holds where a call went well
+pub when_ok : {T E P : Type 0} (r : Result T E) → is_err r ≡ false → OnOk r P → P
+when_ok (Ok v) well p = p
+when_ok (Err e) well p = grind arith

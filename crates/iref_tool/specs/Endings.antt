@@ -4,7 +4,7 @@ use Rattle.std.specs.{Borrow.{Bor}, Io.KnownBytes.{Appends}, IoError.{error_kind
 use Rattle.std.specs.declared.io.{Error.{Error}, ErrorKind.TheVariants.{BrokenPipe}}
 use Rattle.iref.specs.Rules.{Text}
 use Rattle.iref_batch.specs.{Runs.{with_newlines}, StdStreams.{failure_of, inner_of}, declared.streams.FromStd.{FromStd}}
-use Rattle.iref_batch.specs.{Statuses.{number_of}, declared.status.{Status.{Status}, Status.TheVariants.{Wrong}}}
+use Rattle.iref_batch.specs.{Statuses.{number_of}, declared.status.Status.{Status}}
 use Rattle.iref_tool.specs.{JobRuns.{DoesAll, TurnsWrong}, Jobs.{Gathers, Outcome, Sorts, sort_outcome}}
 use Rattle.iref_tool.specs.declared.{jobs.Sort.{Sort}, texts.Texts.{Texts}}
 

@@ -3,7 +3,7 @@ use Rattle.std.specs.Prelude.{◌≡◌, ℕ, Bool, List, [], ◌∷◌, ◌++�
 use Rattle.std.specs.{Borrow.{Bor}, List.{concat}}
 use Rattle.std.proofs.{Common.{sym, ap, ◌∙◌, subst, append_assoc, arith}, lemmas.{Grind.{common_steps}, List.Folds.{concat-append}}}
 use Rattle.iref.specs.Rules.{Text}
-use Rattle.iref_batch.specs.{Gathering.{Gains}, StdStreams.{inner_of}, declared.status.Status.{Status}}
+use Rattle.iref_batch.specs.{Gathering.{Gains}, declared.status.Status.{Status}}
 use Rattle.iref_tool.specs.{JobRuns.{DoesJob, DoesLines, next_number, number_after}, Jobs.{Outcome}, Notes.{StandsForWrong}}
 use Rattle.iref_tool.specs.declared.{jobs.LineFault.{LineFault}, texts.Texts.{Texts}}
 

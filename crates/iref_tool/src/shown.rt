@@ -1,5 +1,5 @@
 //! Names and words as they are shown: nothing in them acts on a terminal, or ends a line.
-ghost use Rattle.std.specs.{Prelude.{◌≡◌, Some}};
+ghost use Rattle.std.specs.{Fmt.{WritesOnOk}, Prelude.{◌≡◌, Some}};
 ghost use Rattle.iref_tool.specs.Shown.{is_replaced, shown, shown_char};
 
 use std::fmt;
@@ -23,6 +23,16 @@ fn shown_char(c: char) -> char
     if is_replaced(c) { '\u{FFFD}' } else { c }
 }
 
+// Writes a text as it is shown.
+fn write_shown<W: fmt::Write>(text: &str, f: &mut fmt::Formatter<W>) -> fmt::Result
+    ensures { WritesOnOk W.write_str_gives f.old result (shown text.now) f.new }
+{
+    for c in text.chars() {
+        f.write_char(shown_char(c))?;
+    }
+    Ok(())
+}
+
 /// A name or a word as it is shown: of `a`, ESC and `[2J` it is `a\u{FFFD}[2J`.
 #[derive(Clone, Copy)]
 pub struct Shown<'a>(pub &'a str);
@@ -31,9 +41,6 @@ impl fmt::Display for Shown<'_> {
     ghost output = { λ word. Some (shown word.0.now) };
 
     fn fmt<W: fmt::Write>(&self, f: &mut fmt::Formatter<W>) -> fmt::Result {
-        for c in self.0.chars() {
-            f.write_char(shown_char(c))?;
-        }
-        Ok(())
+        write_shown(self.0, f)
     }
 }

@@ -1,7 +1,7 @@
 //! The jobs that commands name.
 ghost use Rattle.std.specs.Prelude.{◌≡◌, codes};
 ghost use Rattle.clap.specs.Words.{found_of};
-ghost use Rattle.iref_tool.specs.{Words.{is_given}, Works.{FindsWork}};
+ghost use Rattle.iref_tool.specs.{Words.{is_given}, Works.{FindsWork, FindsWorkAgainst}};
 
 use crate::jobs::{Below, Canonical, Check, Keep, Key, Relativize, Resolve, Sort, Unique};
 use crate::read::{iri, reference};
@@ -35,6 +35,17 @@ fn check(matches: &ArgMatches<'_>) -> Check
     Check { uri, absolute }
 }
 
+// The job of a command with a base; None of one that takes no base.
+fn work_against<'a>(name: &str, base: &'a str, keep: Keep) -> Result<Option<Work<'a>>, Refusal<'a>>
+    ensures { FindsWorkAgainst name.now base.now keep.0 result }
+{
+    match name {
+        "resolve" => Ok(Some(Work::Resolve(Resolve(iri("BASE", base)?, keep)))),
+        "relativize" => Ok(Some(Work::Relativize(Relativize(iri("BASE", base)?, keep)))),
+        _ => Ok(None),
+    }
+}
+
 /// The job that a command names, before the first line; else a word is wrong. None of a command that
 /// names none, as `resolve` without a base.
 pub fn work_of<'m, 'w: 'm>(
@@ -45,20 +56,20 @@ pub fn work_of<'m, 'w: 'm>(
     ensures { FindsWork name.now (found_of matches.now) result }
 {
     let keep = Keep(is_given(matches, "keep"));
-    let work = match (name, matches.get_str("base")) {
-        ("check", _) => Work::Check(check(matches)),
-        ("canonical", _) => Work::Canonical(Canonical::new(alloc, keep)),
-        ("key", _) => Work::Key(Key(keep)),
-        ("resolve", Some(base)) => Work::Resolve(Resolve(iri("BASE", base)?, keep)),
-        ("relativize", Some(base)) => Work::Relativize(Relativize(iri("BASE", base)?, keep)),
-        ("sort", _) => Work::Sort(Sort::new(alloc)),
-        ("unique", _) => Work::Unique(Unique::new(alloc)),
-        ("below", _) => {
+    match name {
+        "check" => Ok(Some(Work::Check(check(matches)))),
+        "canonical" => Ok(Some(Work::Canonical(Canonical::new(alloc, keep)))),
+        "key" => Ok(Some(Work::Key(Key(keep)))),
+        "sort" => Ok(Some(Work::Sort(Sort::new(alloc)))),
+        "unique" => Ok(Some(Work::Unique(Unique::new(alloc)))),
+        "below" => {
             let prefix = reference("PREFIX", word_of(matches, "PREFIX"))?;
-            Work::Below(Below::new(alloc, prefix)?)
+            Ok(Some(Work::Below(Below::new(alloc, prefix)?)))
         }
-        ("lines", _) => Work::Lines,
-        _ => return Ok(None),
-    };
-    Ok(Some(work))
+        "lines" => Ok(Some(Work::Lines)),
+        _ => match matches.get_str("base") {
+            Some(base) => work_against(name, base, keep),
+            None => Ok(None),
+        },
+    }
 }

@@ -1,4 +1,4 @@
-use Rattle.std.proofs.Common.{rules, arith, ◌≡◌, ◌++◌, ◌∷◌, [], length, subst, take}
+use Rattle.std.proofs.Common.{rules, arith, ◌≡◌, ◌++◌, ◌∷◌, [], subst, take}
 use Rattle.std.proofs.lemmas.Grind.{common_steps}
 use Rattle.iref_tool.specs.JobRuns.{DoesAll, DoesJob}
 use Rattle.iref_tool.proofs.JobRunLemmas.{not_failed, one_more_file, worst_more}
@@ -27,5 +27,5 @@ returns g c =
     record {
       status = c.loop-file.status;
       does = λ none. subst (λ files. DoesAll g.J.Job.outcome g.J.Job.goes_on g.W.Write.contents files c.loop-file.status c.args.texts.now c.loop-file.texts) all c.loop-file.invariant;
-      worst = c.worse.ensures;
+      worst = c.worse-2.ensures;
     }

@@ -1,4 +1,4 @@
-use Rattle.std.proofs.Common.{map, subst, inl, inr, ◌∙◌, ap}
+use Rattle.std.proofs.Common.{map, subst, inl}
 use Rattle.std.specs.Io.KnownBytes.{Appends}
 use Rattle.iref.specs.References.{reference_text}
 use Rattle.iref_batch.specs.{Runs.{with_newlines}, StdStreams.{inner_of}}

@@ -1,5 +1,5 @@
 use Rattle.std.proofs.Common.{◌≡◌, ◌++◌, List, [], ◌∷◌, ℕ, Option, None, Some, IfSome, ap, append_assoc, append-nil, subst, sym, ◌∙◌}
-use Rattle.std.specs.{Fmt.{WritesInCalls, WritesText}, Fmt.InlineText.{AppendsIfIntact, IsIntact, inline_text}, List.{FoldsTo, concat}}
+use Rattle.std.specs.{Fmt.{WritesText}, Fmt.InlineText.{AppendsIfIntact, IsIntact, inline_text}, List.{FoldsTo, concat}}
 use Rattle.std.specs.declared.fmt.InlineText.{InlineText}
 use Rattle.iref_tool.proofs.place.Found.of.Goals as goal
 

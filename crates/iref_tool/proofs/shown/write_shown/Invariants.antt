@@ -1,7 +1,7 @@
 use Rattle.std.proofs.Common.{encode_utf8_all, map}
 use Rattle.std.specs.Fmt.{HasWritten, IsPlainFormatter}
 use Rattle.iref_tool.specs.Shown.{shown_char}
-use Rattle.iref_tool.proofs.shown.ShownDisplay.fmt.Given as goal
+use Rattle.iref_tool.proofs.shown.write_shown.Given as goal
 
 -- the characters before the next were written as they are shown
 abbrev pub invariant-loop-c : goal.invariant-loop-c
