@@ -60,7 +60,8 @@ module _ (reports : Bool) (file : Text) (number : ℕ) (line : Text) (fault said
   -- the note is gathered
   pub said_gathered : reports ≡ true → IfSome (note_text file number line said found) (λ text. gathered_then ≡ gathered ++ with_newline text) → before ≡ after → IsSaid
   said_gathered here pushed kept =
-      says_note here (rw kept (gains_gathered (with_newline note.0) after gathered gathered_then (subst (λ t. IfSome t (λ text. gathered_then ≡ gathered ++ with_newline text)) note.1 pushed)))
+      let noted : gathered_then ≡ gathered ++ with_newline note.0 = subst (λ t. IfSome t (λ text. gathered_then ≡ gathered ++ with_newline text)) note.1 pushed in
+      says_note here (subst (λ a. Gains (with_newline note.0) before a gathered gathered_then) kept (gains_gathered (with_newline note.0) before gathered gathered_then noted))
 
   -- what was gathered is written, and the note after it
   pub said_printed : (mid : Option Text) → reports ≡ true → Writes gathered before mid → gathered_then ≡ [] → IfSome (with_end (note_text file number line said found)) (Appends mid after) → IsSaid

@@ -21,7 +21,7 @@ pub returns-else-is_err-clause-said : goal.returns-else-is_err-clause-said
 returns-else-is_err-clause-said g c =
     let old = c.args.self.now in
     said_gathered old.reports old.file.now old.number c.args.line.now c.args.fault c.said_of-fault.result.0 (found_of c.said_of-fault.result.1) c.said_of-fault.ensures.fault c.said_of-fault.ensures.found _ _ old.answers.items _
-    c.if-self.true (when_ok c.push_note.result (sym c.is_err.ensures ∙ c.if-is_err.false) c.push_note.ensures.ok) refl
+    c.if-self.true (when_ok c.push_note.result (sym c.is_err.ensures.value ∙ c.if-is_err.false) c.push_note.ensures.ok) refl
 
 pub returns-else-is_err-2-clause-said : goal.returns-else-is_err-2-clause-said
 returns-else-is_err-2-clause-said g c =
