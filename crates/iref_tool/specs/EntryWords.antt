@@ -2,6 +2,7 @@
 use Rattle.std.specs.Prelude.{List, [], Option, None, Some, Result, Ok, Err, codes}
 use Rattle.iref.specs.{PrefixTable.{PrefixEntry, PrefixesValue, CompactValue, InsertRefusal, ExpandRefusal}, Rules.{Text}}
 use Rattle.iref.specs.PrefixTable.{BadLabel, Taken, NoColon, UnknownLabel, NotAnIri, compact_text, compacted, expanded, inserted}
+use Rattle.iref.specs.declared.compact.label.Labels.{Labels}
 use Rattle.iref.specs.declared.compact.label.Labels.TheVariants.{Turtle}
 use Rattle.iref_batch.specs.Lines.{Answered, read_entry}
 use Rattle.iref_tool.specs.Replies.{Refuses, Reply, WrongWord, and_then, if_iri, read_all}
@@ -11,15 +12,15 @@ use Rattle.iref_tool.specs.declared.refusal.Reason.TheVariants as reason
 abbrev pub entry_argument : Text
 entry_argument = codes "LABEL=IRI"
 
--- the table that has taken the entry, or why it has not
-abbrev pub taken : Text → Result PrefixesValue InsertRefusal → Result PrefixesValue WrongWord
-taken word (Ok table) = Ok table
-taken word (Err (BadLabel labels)) = Err (Refuses entry_argument word (reason.Label labels))
-taken word (Err Taken) = Err (Refuses entry_argument word reason.Taken)
+-- the table that has taken the entry, or why one with these labels has not
+abbrev pub taken : Labels → Text → Result PrefixesValue InsertRefusal → Result PrefixesValue WrongWord
+taken labels word (Ok table) = Ok table
+taken labels word (Err BadLabel) = Err (Refuses entry_argument word (reason.Label labels))
+taken labels word (Err Taken) = Err (Refuses entry_argument word reason.Taken)
 
 abbrev pub with_entry_read : PrefixesValue → Text → Option PrefixEntry → Result PrefixesValue WrongWord
 with_entry_read table word None = Err (Refuses entry_argument word reason.NoEntry)
-with_entry_read table word (Some e) = if_iri entry_argument word e.iri (taken word (inserted e.label e.iri table))
+with_entry_read table word (Some e) = if_iri entry_argument word e.iri (taken table.labels word (inserted e.label e.iri table))
 
 -- the table with the entry of a word
 abbrev pub with_entry : PrefixesValue → Text → Result PrefixesValue WrongWord

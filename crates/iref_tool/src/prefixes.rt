@@ -24,9 +24,10 @@ fn insert<'a>(table: &mut Prefixes, word: &'a str) -> Result<(), Refusal<'a>>
         return Err(Refusal::Word(ENTRY, word, Reason::NoEntry));
     };
     let iri = iri_at_end(ENTRY, word, text)?;
+    let labels = table.labels();
     let reason = match table.insert(label, iri) {
         Ok(()) => return Ok(()),
-        Err(PrefixFault::BadLabel(labels)) => Reason::Label(labels),
+        Err(PrefixFault::BadLabel) => Reason::Label(labels),
         Err(PrefixFault::Taken) => Reason::Taken,
         Err(PrefixFault::Memory) => return Err(Refusal::Memory),
     };
