@@ -1,5 +1,5 @@
 -- What the command makes of a line of a file.
-use Rattle.std.specs.Prelude.{◌≡◌, Bool, ◌||◌, List, ◌∷◌, ◌++◌, Option, Some, None, Result, Ok, Err, is_none, is_some, if◌then◌else◌}
+use Rattle.std.specs.Prelude.{◌≡◌, Bool, ◌||◌, List, [], ◌∷◌, ◌++◌, Option, Some, None, Result, Ok, Err, is_none, is_some, if◌then◌else◌}
 use Rattle.std.specs.{BTreeSet.{contains}, List.{filter}, List.Sorted.{IsPermutation, IsSorted, IsStable}, Ordering.{on}}
 use Rattle.iref.specs.{Characters.{iri_chars, uri_chars}, Faults.{FaultValue, fault_of_reference, fault_of_uri}}
 use Rattle.iref.specs.{BytePlaces.{fault_value}, Keys.{text_order}, Key.{are_alike, key, key_cmp}, Lists.{key_of_text}, Rules.{Text}}

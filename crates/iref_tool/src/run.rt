@@ -67,7 +67,7 @@ fn columns(rt: &HostRuntime) -> usize {
 
 // Prints why there is no answer.
 fn refused(rt: &HostRuntime, refusal: Refusal<'_>) -> Status
-    ensures { result ≡ status_of refusal }
+    ensures { result ≡ status_of refusal.entry }
 {
     let columns = columns(rt);
     let _ = rt.eprint(&Told { refusal, columns });
