@@ -98,6 +98,7 @@ fn prefix(alloc: Global, context: &mut Prefixes, label: &str, iri: &str) -> Resu
     match context.insert(label, iri) {
         Ok(()) => Ok(done),
         Err(PrefixFault::Memory) => Err(Memory),
+        Err(PrefixFault::BadLabel) => Ok(format!(in alloc; "error: {}", context.labels())?),
         Err(error) => Ok(format!(in alloc; "error: {error}")?),
     }
 }
