@@ -40,6 +40,12 @@ fn misuse(rt: &HostRuntime, what: &str) -> ExitCode {
     ExitCode::from(Status::Misused)
 }
 
+// Says that memory was refused.
+fn out_of_memory(rt: &HostRuntime) -> ExitCode {
+    let _ = eprintln!(rt; "iref: out of memory");
+    ExitCode::FAILURE
+}
+
 // Does what the words ask for.
 fn run_words(rt: &HostRuntime, words: &[String]) -> Result<ExitCode, clap::Error> {
     if words.len() < 2 && !rt.stdin().is_terminal() {
@@ -63,34 +69,31 @@ fn run_words(rt: &HostRuntime, words: &[String]) -> Result<ExitCode, clap::Error
 }
 
 // Says what is wrong with the words, line by line.
-fn say(rt: &HostRuntime, error: &clap::Error) {
+fn say(rt: &HostRuntime, error: &clap::Error) -> ExitCode {
     let Ok(text) = format!(in rt.alloc(); "{error}") else {
-        return;
+        return out_of_memory(rt);
     };
     for line in text.lines() {
         let _ = eprintln!(rt; "{}", Shown(line));
     }
+    ExitCode::from(Status::Misused)
 }
 
 // Prints what clap says: help, the version, or what is wrong with the words.
 fn said(rt: &HostRuntime, error: &clap::Error) -> ExitCode {
     match error.kind() {
-        ErrorKind::OutOfMemory => ExitCode::FAILURE,
+        ErrorKind::OutOfMemory => out_of_memory(rt),
         ErrorKind::DisplayHelp | ErrorKind::DisplayVersion => match error.print(rt) {
             Ok(()) => ExitCode::SUCCESS,
             Err(error) => ExitCode::from(output_failed(rt, &error, Status::Well)),
         },
-        _ => {
-            say(rt, error);
-            ExitCode::from(Status::Misused)
-        }
+        _ => say(rt, error),
     }
 }
 
 fn main(rt: HostRuntime) -> ExitCode {
     let Ok(words) = read_words(&rt) else {
-        let _ = eprintln!(rt; "iref: out of memory");
-        return ExitCode::FAILURE;
+        return out_of_memory(&rt);
     };
     match run_words(&rt, words.as_slice()) {
         Ok(code) => code,
